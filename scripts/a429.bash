@@ -10,7 +10,7 @@ survey PROFILE REC: counts what a recording of any length has
 trace PROFILE REC: says what the sink is doing after each word of the transfer
 blocks PROFILE REC: lists the attempts to send a block in a recording of any length
 sink PROFILE REC: judges the sink of a recording of any length by itself
-history PROFILE REC DIR: puts a recording of any length that need not be of one run (a unit was restarted
+history PROFILE REC DIR: puts a recording of any length in pieces into DIR
 keep PROFILE REC: writes the entries of a recording of any length whose words have the label of the transfer
 cut PROFILE REC DIR [MOST]: writes the parts of a recording of any length into DIR
 side PROFILE REC LINE OUT [ANSWER]: writes the words of one direction into OUT

@@ -7,9 +7,9 @@ ghost use Rattle.a429_word.specs.Tally.{has_failed};
 use a429_commands::{
     Claim, Command, Folder, IntoFolder, NewFile, PartFolder, PieceFolder, Rule, RunFault, Side,
     Span, command, read_whole, report, run_blocks, run_by_rule, run_cut, run_extract, run_forms,
-    run_history, run_import, run_keep, run_labels, run_make, run_pack, run_picture, run_series,
-    run_show, run_side, run_sink, run_survey, run_trace, run_units, run_upgrade, run_verify,
-    run_version, run_why, run_word,
+    run_help, run_history, run_import, run_keep, run_labels, run_make, run_pack, run_picture,
+    run_series, run_show, run_side, run_sink, run_survey, run_trace, run_units, run_upgrade,
+    run_verify, run_version, run_why, run_word,
 };
 use a429_record::EntryReader;
 use a429_view::UnitRows;
@@ -75,6 +75,7 @@ fn answer<W: Write + Drop>(
 ) -> Result<u8, RunFault> {
     let mut out = out;
     let status = match command {
+        Command::Help => run_help(&mut out),
         Command::Version => run_version(&mut out),
         Command::Word(hex) => run_word(hex, &mut out),
         Command::Labels(profile) => labels(rt, alloc, profile, &mut out),

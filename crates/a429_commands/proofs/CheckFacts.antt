@@ -78,7 +78,7 @@ on by_rule profile p known (Err e) is h = tt
 pub not_under : (profile : List ℕ) (p : Contents) (rec : Heard) (r : Result Verdict RunFault) → IsProfileOf profile p → IfErr r (IsReadFault rec.bytes rec.failed) → IfErr r (ComesBy (unheard_causes profile rec))
 not_under profile p rec (Ok v) is h = tt
 not_under profile p rec (Err e) is h = comes_by (read_causes rec.bytes rec.failed) (unheard_causes profile rec)
-    (record { profile = λ f h. absurd h; recording = λ f h. ((p, is), h); file = λ k f h. absurd h; too_long = λ h. absurd h; device = λ h. ((p, is), h); memory = λ h. is.0 }) e h
+    (record { profile = λ f h. absurd h; recording = λ f h. ((p, is), h); file = λ k f h. absurd h; too_long = λ h. absurd h; no_place = λ h. absurd h; device = λ h. ((p, is), h); memory = λ h. is.0 }) e h
 
 -- of these entries
 pub under : (by_rule : Rule) (p : Contents) (known : Option (List ℕ)) (es slice : List Entry) (a : Result Verdict OutOfMemory) (r : Result Verdict RunFault) → SaysEntries known es → slice ≡ es

@@ -17,8 +17,8 @@ use Rattle.a429_commands.specs.declared.fault.RunFault.{RunFault}
 use Rattle.a429_commands.specs.Ends as Out
 use Rattle.a429_commands.specs.Output.{Output}
 use Rattle.a429_commands.specs.Profile.{IsProfileFault, IsProfileOf}
-use Rattle.a429_commands.specs.Streaming.{reported}
-use Rattle.a429_commands.specs.Cut.{CutsInto, IsFaultOfCut, IsPartsFault, Placed, PutsAllParts, PutsFirstParts, PutsPartsUntil, PutsSomeParts, Task, of_cut, of_parts, task, troubled}
+use Rattle.a429_commands.specs.Streaming.{IsFaultToCome}
+use Rattle.a429_commands.specs.Cut.{CutsInto, IsPartsFault, Placed, PutsAllParts, PutsFirstParts, PutsPartsUntil, PutsSomeParts, Task, of_cut, of_parts, reported_by_cut, task, troubled}
 use Rattle.a429_commands.proofs.EndsFacts.{ends_as}
 
 -- entries, and then the rest of a recording, with a fault or by one of `cut`
@@ -38,33 +38,33 @@ begins_all (Some r) es h = (whole [], h ∙ ap whole (sym (append-nil es)))
 fault_is : (r later : Recording) (es : List Entry) (f : ReadFault) → r ≡ with_entries es later → later ≡ record { entries = []; fault = Some f } → r.fault ≡ Some f
 fault_is r later es f is stops = ap (λ (q : Recording). q.fault) is ∙ ap (λ (q : Recording). q.fault) stops
 
-fault_of_cut : (p : Contents) (rec : Option Recording) (most : ℕ) (es : List Entry) (from : ℕ) (rest : List Entry) (f : ReadFault) → Ends p rec most es from rest f → (f ≡ read.Device → ⊥) → (f ≡ read.OutOfMemory → ⊥) → IsFaultOfCut rec f
-fault_of_cut p rec most es from rest read.Device h a b = absurd (a refl)
-fault_of_cut p rec most es from rest read.OutOfMemory h a b = absurd (b refl)
-fault_of_cut p rec most es from rest read.TooMany h a b = inr refl
-fault_of_cut p None most es from rest read.Header h a b = inl tt
-fault_of_cut p None most es from rest (read.Row i) h a b = inl tt
-fault_of_cut p None most es from rest (read.TimeBack i) h a b = inl tt
-fault_of_cut p None most es from rest read.Failed h a b = inl tt
-fault_of_cut p (Some r) most es from rest read.Header (later, is, inl stops) a b = inl (fault_is r later es read.Header is stops)
-fault_of_cut p (Some r) most es from rest (read.Row i) (later, is, inl stops) a b = inl (fault_is r later es (read.Row i) is stops)
-fault_of_cut p (Some r) most es from rest (read.TimeBack i) (later, is, inl stops) a b = inl (fault_is r later es (read.TimeBack i) is stops)
-fault_of_cut p (Some r) most es from rest read.Failed (later, is, inl stops) a b = inl (fault_is r later es read.Failed is stops)
-fault_of_cut p (Some r) most es from rest read.Header (later, is, inr none) a b = absurd none
-fault_of_cut p (Some r) most es from rest (read.Row i) (later, is, inr none) a b = absurd none
-fault_of_cut p (Some r) most es from rest (read.TimeBack i) (later, is, inr none) a b = absurd none
-fault_of_cut p (Some r) most es from rest read.Failed (later, is, inr none) a b = absurd none
+fault_of_cut : (p : Contents) (rec : Option Recording) (most : ℕ) (es : List Entry) (from : ℕ) (rest : List Entry) (f : ReadFault) → Ends p rec most es from rest f → (f ≡ read.Device → ⊥) → (f ≡ read.OutOfMemory → ⊥) → (f ≡ read.TooMany → ⊥) → IsFaultToCome rec f
+fault_of_cut p rec most es from rest read.Device h a b n = absurd (a refl)
+fault_of_cut p rec most es from rest read.OutOfMemory h a b n = absurd (b refl)
+fault_of_cut p rec most es from rest read.TooMany h a b n = absurd (n refl)
+fault_of_cut p None most es from rest read.Header h a b n = tt
+fault_of_cut p None most es from rest (read.Row i) h a b n = tt
+fault_of_cut p None most es from rest (read.TimeBack i) h a b n = tt
+fault_of_cut p None most es from rest read.Failed h a b n = tt
+fault_of_cut p (Some r) most es from rest read.Header (later, is, inl stops) a b n = fault_is r later es read.Header is stops
+fault_of_cut p (Some r) most es from rest (read.Row i) (later, is, inl stops) a b n = fault_is r later es (read.Row i) is stops
+fault_of_cut p (Some r) most es from rest (read.TimeBack i) (later, is, inl stops) a b n = fault_is r later es (read.TimeBack i) is stops
+fault_of_cut p (Some r) most es from rest read.Failed (later, is, inl stops) a b n = fault_is r later es read.Failed is stops
+fault_of_cut p (Some r) most es from rest read.Header (later, is, inr none) a b n = absurd none
+fault_of_cut p (Some r) most es from rest (read.Row i) (later, is, inr none) a b n = absurd none
+fault_of_cut p (Some r) most es from rest (read.TimeBack i) (later, is, inr none) a b n = absurd none
+fault_of_cut p (Some r) most es from rest read.Failed (later, is, inr none) a b n = absurd none
 
 -- what came until the fault, and why
 module _ {W : Type 0} (contents : W → Option (List ℕ)) (p : Contents) (most : ℕ) (k : Taken) (reader : Bool) {s t : Sheet W} (o : Placed) where
-  pub ends_by : (f : ReadFault) (until : CutsUntil p most k (outputs contents o.old o.new s t) f) → (f ≡ read.Device → (reader ≡ true) ⊎ (o.failed ≡ true)) → IsPartsFault (task most k reader) o (reported f)
+  pub ends_by : (f : ReadFault) (until : CutsUntil p most k (outputs contents o.old o.new s t) f) → (f ≡ read.Device → (reader ≡ true) ⊎ (o.failed ≡ true)) → IsPartsFault (task most k reader) o (reported_by_cut f)
   ends_by read.Device h failed = failed refl
   ends_by read.OutOfMemory h failed = tt
-  ends_by read.Header h failed = fault_of_cut p k.recording most h.entries (length (joined h.parts)) h.rest read.Header h.ends (λ e. absurd (cc e)) (λ e. absurd (cc e))
-  ends_by (read.Row i) h failed = fault_of_cut p k.recording most h.entries (length (joined h.parts)) h.rest (read.Row i) h.ends (λ e. absurd (cc e)) (λ e. absurd (cc e))
-  ends_by (read.TimeBack i) h failed = fault_of_cut p k.recording most h.entries (length (joined h.parts)) h.rest (read.TimeBack i) h.ends (λ e. absurd (cc e)) (λ e. absurd (cc e))
-  ends_by read.TooMany h failed = fault_of_cut p k.recording most h.entries (length (joined h.parts)) h.rest read.TooMany h.ends (λ e. absurd (cc e)) (λ e. absurd (cc e))
-  ends_by read.Failed h failed = fault_of_cut p k.recording most h.entries (length (joined h.parts)) h.rest read.Failed h.ends (λ e. absurd (cc e)) (λ e. absurd (cc e))
+  ends_by read.Header h failed = fault_of_cut p k.recording most h.entries (length (joined h.parts)) h.rest read.Header h.ends (λ e. absurd (cc e)) (λ e. absurd (cc e)) (λ e. absurd (cc e))
+  ends_by (read.Row i) h failed = fault_of_cut p k.recording most h.entries (length (joined h.parts)) h.rest (read.Row i) h.ends (λ e. absurd (cc e)) (λ e. absurd (cc e)) (λ e. absurd (cc e))
+  ends_by (read.TimeBack i) h failed = fault_of_cut p k.recording most h.entries (length (joined h.parts)) h.rest (read.TimeBack i) h.ends (λ e. absurd (cc e)) (λ e. absurd (cc e)) (λ e. absurd (cc e))
+  ends_by read.TooMany h failed = tt
+  ends_by read.Failed h failed = fault_of_cut p k.recording most h.entries (length (joined h.parts)) h.rest read.Failed h.ends (λ e. absurd (cc e)) (λ e. absurd (cc e)) (λ e. absurd (cc e))
 
   -- ---- what is left
 
@@ -80,7 +80,7 @@ module _ {W : Type 0} (contents : W → Option (List ℕ)) (p : Contents) (most 
   leaves_first : (f : ReadFault) (until : CutsUntil p most k (outputs contents o.old o.new s t) f) → PutsFirstParts (task most k reader) o f p (list_text until.parts)
   leaves_first f h = record { entries = h.entries; parts = h.parts; came = h.came; rest = h.rest; few = h.few; are = h.are; ends = h.ends; gains = h.puts.gains; text_is = refl }
 
-  pub leaves_until : (f : ReadFault) (until : CutsUntil p most k (outputs contents o.old o.new s t) f) → PutsPartsUntil (task most k reader) o (reported f) p (list_text until.parts)
+  pub leaves_until : (f : ReadFault) (until : CutsUntil p most k (outputs contents o.old o.new s t) f) → PutsPartsUntil (task most k reader) o (reported_by_cut f) p (list_text until.parts)
   leaves_until read.Device h = leaves_some read.Device h
   leaves_until read.OutOfMemory h = leaves_some read.OutOfMemory h
   leaves_until read.Header h = leaves_first read.Header h

@@ -69,7 +69,7 @@ only_reader rec out (inr h) works = absurd (cc (h, works))
 -- where the output works, the fault is one of reading
 next : (known : Option Recording) (rec out : Bool) (e : RunFault) → IsLinesFault known rec out e → out ≡ false → IsNextFault known rec e
 next known rec out e h works = comes_by (lines_causes known rec out) (next_causes known rec)
-    (record { profile = λ f h. h; recording = λ f h. h; file = λ k f h. h; too_long = λ h. h; device = λ h. only_reader rec out h works; memory = λ h. h }) e h
+    (record { profile = λ f h. h; recording = λ f h. h; file = λ k f h. h; too_long = λ h. h; no_place = λ h. h; device = λ h. only_reader rec out h works; memory = λ h. h }) e h
 
 module _ (Says : Contents → Taken → ℕ → List ℕ → Type 0) (Stops : Contents → Taken → RunFault → List ℕ → Type 0) (Begins : Contents → Taken → List ℕ → Type 0) (p : Contents) (t : Taken) (failed : Bool) where
   -- the text of its answer was written

@@ -23,6 +23,7 @@ left_by_profile profile at Failed (run.Cut k f) e h = absurd e
 left_by_profile profile at Failed run.TooLong e h = absurd e
 left_by_profile profile at Failed run.BadWord e h = absurd e
 left_by_profile profile at Failed run.Usage e h = absurd e
+left_by_profile profile at Failed run.NoPlace e h = absurd e
 left_by_profile profile at Failed run.OldFiles e h = absurd e
 left_by_profile profile at Failed (run.Map f) e h = absurd e
 left_by_profile profile at Failed (run.Export f) e h = absurd e

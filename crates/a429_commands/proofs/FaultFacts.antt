@@ -13,6 +13,7 @@ pub record Covers (c d : Causes) : Type 0 where
   pub recording : (f : ReadFault) → c.recording f → d.recording f
   pub file : (k : ℕ) (f : CutFault) → c.file k f → d.file k f
   pub too_long : c.too_long → d.too_long
+  pub no_place : c.no_place → d.no_place
   pub device : c.device → d.device
   pub memory : c.memory → d.memory
 
@@ -22,6 +23,7 @@ comes_by c d h (run.Profile f) is = h.profile f is
 comes_by c d h (run.Read f) is = h.recording f is
 comes_by c d h (run.Cut k f) is = h.file k f is
 comes_by c d h run.TooLong is = h.too_long is
+comes_by c d h run.NoPlace is = h.no_place is
 comes_by c d h run.Device is = h.device is
 comes_by c d h run.Memory is = h.memory is
 comes_by c d h run.BadWord is = is

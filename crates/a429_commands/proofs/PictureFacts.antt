@@ -73,7 +73,7 @@ too_long i p span Failed old new files is here b h e =
 -- a fault of `a429 verify` is one of `picture`
 pub as_verify : (i : Input) (span : Span) (Failed : Type 0) (e : RunFault) → IsVerifyFault i no_shelf Failed e → IsPictureFault i span Failed e
 as_verify i span Failed = comes_by (verify_causes i no_shelf Failed) (picture_causes i span Failed)
-    (record { profile = λ f h. h; recording = λ f h. h; file = λ k f h. absurd h; too_long = λ h. absurd h; device = λ h. h; memory = λ h. h })
+    (record { profile = λ f h. h; recording = λ f h. h; file = λ k f h. absurd h; too_long = λ h. absurd h; no_place = λ h. absurd h; device = λ h. h; memory = λ h. h })
 
 -- ---- of what was judged and sketched
 

@@ -203,7 +203,7 @@ fault_of_list p list part counts Failed (Err e) listed h = inr (counts, listed, 
 
 by_parts : (i : SeriesInput) (Failed : Type 0) (p : Contents) (counts : List ℕ) (e : RunFault) → IsProfileOf i.profile p → ListsParts i.list counts → IsPartsFault p i.part counts Failed e → IsSeriesFault i Failed e
 by_parts i Failed p counts e is listed = comes_by (part_causes p i.part counts Failed) (series_causes i Failed)
-    (record { profile = λ f h. absurd h; recording = λ f h. (h.0, (p, counts, h.1.0, is, listed, h.1.1)); file = λ k f h. absurd h; too_long = λ h. absurd h; device = λ h. ((p, is), h); memory = λ h. is.0 }) e
+    (record { profile = λ f h. absurd h; recording = λ f h. (h.0, (p, counts, h.1.0, is, listed, h.1.1)); file = λ k f h. absurd h; too_long = λ h. absurd h; no_place = λ h. absurd h; device = λ h. ((p, is), h); memory = λ h. is.0 }) e
 
 by_list : (i : SeriesInput) (Failed : Type 0) (p : Contents) (e : RunFault) → IsProfileOf i.profile p → IsListFault p i.list i.part Failed e → IsSeriesFault i Failed e
 by_list i Failed p e is (inl memory) = subst (IsSeriesFault i Failed) (sym memory) is.0

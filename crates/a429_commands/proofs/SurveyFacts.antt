@@ -18,9 +18,9 @@ surveyed profile p rec s is h = record { says = record { contents = p; entries =
 -- the profile is one
 pub uncounted : (profile : List ℕ) (p : Contents) (known : Option Recording) (failed : Bool) (e : RunFault) → IsProfileOf profile p → IsNextFault known failed e → ComesBy (survey_causes profile known failed) e
 uncounted profile p known failed e is = comes_by (next_causes known failed) (survey_causes profile known failed)
-    (record { profile = λ f h. absurd h; recording = λ f h. ((p, is), h); file = λ k f h. absurd h; too_long = λ h. absurd h; device = λ h. ((p, is), h); memory = λ h. is.0 }) e
+    (record { profile = λ f h. absurd h; recording = λ f h. ((p, is), h); file = λ k f h. absurd h; too_long = λ h. absurd h; no_place = λ h. absurd h; device = λ h. ((p, is), h); memory = λ h. is.0 }) e
 
 -- no profile, and so no counts
 pub unprofiled : (profile : List ℕ) (known : Option Recording) (failed : Bool) (e : RunFault) → IsProfileFault profile e → ComesBy (survey_causes profile known failed) e
 unprofiled profile known failed = comes_by (profile_causes profile) (survey_causes profile known failed)
-    (record { profile = λ f h. h; recording = λ f h. absurd h; file = λ k f h. absurd h; too_long = λ h. absurd h; device = λ h. absurd h; memory = λ h. h })
+    (record { profile = λ f h. h; recording = λ f h. absurd h; file = λ k f h. absurd h; too_long = λ h. absurd h; no_place = λ h. absurd h; device = λ h. absurd h; memory = λ h. h })

@@ -176,6 +176,7 @@ all_given (run.Cut k f) given n h = h
 all_given run.TooLong given n h = h
 all_given run.BadWord given n h = h
 all_given run.Usage given n h = h
+all_given run.NoPlace given n h = h
 all_given run.OldFiles given n h = h
 all_given (run.Map f) given n h = h
 all_given (run.Export f) given n h = h

@@ -185,6 +185,7 @@ module _ {W : Type 0} (contents : W → Option (List ℕ)) (i : Input) (old new 
   left_at run.TooLong tries h = let front = gone_out contents old new tries.text fresh tries.part in record { text = take front.0 tries.text; is = (tries.text, tries.rows, (front.0, front.1, refl)); puts = front.2 }
   left_at run.BadWord tries h = let front = gone_out contents old new tries.text fresh tries.part in record { text = take front.0 tries.text; is = (tries.text, tries.rows, (front.0, front.1, refl)); puts = front.2 }
   left_at run.Usage tries h = let front = gone_out contents old new tries.text fresh tries.part in record { text = take front.0 tries.text; is = (tries.text, tries.rows, (front.0, front.1, refl)); puts = front.2 }
+  left_at run.NoPlace tries h = let front = gone_out contents old new tries.text fresh tries.part in record { text = take front.0 tries.text; is = (tries.text, tries.rows, (front.0, front.1, refl)); puts = front.2 }
   left_at run.OldFiles tries h = let front = gone_out contents old new tries.text fresh tries.part in record { text = take front.0 tries.text; is = (tries.text, tries.rows, (front.0, front.1, refl)); puts = front.2 }
   left_at (run.Map f) tries h = let front = gone_out contents old new tries.text fresh tries.part in record { text = take front.0 tries.text; is = (tries.text, tries.rows, (front.0, front.1, refl)); puts = front.2 }
   left_at (run.Export f) tries h = let front = gone_out contents old new tries.text fresh tries.part in record { text = take front.0 tries.text; is = (tries.text, tries.rows, (front.0, front.1, refl)); puts = front.2 }
@@ -245,6 +246,7 @@ leaves_units contents i old new (run.Cut k f) fresh before h = tt
 leaves_units contents i old new run.TooLong fresh before h = tt
 leaves_units contents i old new run.BadWord fresh before h = tt
 leaves_units contents i old new run.Usage fresh before h = tt
+leaves_units contents i old new run.NoPlace fresh before h = tt
 leaves_units contents i old new run.OldFiles fresh before h = tt
 leaves_units contents i old new (run.Map f) fresh before h = tt
 leaves_units contents i old new (run.Export f) fresh before h = tt

@@ -98,7 +98,7 @@ reader_failed rec cert shelf listener a = or_right listener (shelf || (rec || ce
 -- a profile that was not read
 pub by_profile : (i : Input) (shelf : Shelved) (Failed : Type 0) (e : RunFault) → IsUnchanged shelf.before shelf.after → IsProfileFault i.profile e → IsVerifyFault i shelf Failed e
 by_profile i shelf Failed e same = comes_by (profile_causes i.profile) (verify_causes i shelf Failed)
-    (record { profile = λ f h. (h, same); recording = λ f h. absurd h; file = λ k f h. absurd h; too_long = λ h. absurd h; device = λ h. absurd h; memory = λ h. (h, inl same) }) e
+    (record { profile = λ f h. (h, same); recording = λ f h. absurd h; file = λ k f h. absurd h; too_long = λ h. absurd h; no_place = λ h. absurd h; device = λ h. absurd h; memory = λ h. (h, inl same) }) e
 
 -- then nothing was heard of the recording
 pub unheard : {T : Type 0} (l : Listening T) (i : Input) (e : RunFault) → IsProfileFault i.profile e → HearsUntil l i e
@@ -110,6 +110,7 @@ unheard l i (run.Cut k f) h = tt
 unheard l i run.TooLong h = tt
 unheard l i run.BadWord h = tt
 unheard l i run.Usage h = tt
+unheard l i run.NoPlace h = tt
 unheard l i run.OldFiles h = tt
 unheard l i (run.Map f) h = tt
 unheard l i (run.Export f) h = tt

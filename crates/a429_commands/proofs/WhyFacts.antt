@@ -22,7 +22,7 @@ on profile p known (Err e) is h = tt
 pub not_under : (profile : List ℕ) (p : Contents) (rec : Heard) (r : Result Answer RunFault) → IsProfileOf profile p → IfErr r (IsReadFault rec.bytes rec.failed) → IfErr r (ComesBy (unheard_causes profile rec))
 not_under profile p rec (Ok a) is h = tt
 not_under profile p rec (Err e) is h = comes_by (read_causes rec.bytes rec.failed) (unheard_causes profile rec)
-    (record { profile = λ f h. absurd h; recording = λ f h. ((p, is), h); file = λ k f h. absurd h; too_long = λ h. absurd h; device = λ h. ((p, is), h); memory = λ h. is.0 }) e h
+    (record { profile = λ f h. absurd h; recording = λ f h. ((p, is), h); file = λ k f h. absurd h; too_long = λ h. absurd h; no_place = λ h. absurd h; device = λ h. ((p, is), h); memory = λ h. is.0 }) e h
 
 -- of these entries
 pub under : (p : Contents) (known : Option (List ℕ)) (es slice : List Entry) (r : Result Answer RunFault) → SaysEntries known es → slice ≡ es → IfOk r (IsAnswerBy p (items_of slice)) → IfOk r (IsAnswerUnder p known)

@@ -18,7 +18,7 @@ use Rattle.a429_commands.specs.Ends.{Promise}
 use Rattle.a429_commands.specs.Fault.{ComesBy, never}
 use Rattle.a429_commands.specs.Output.{Output}
 use Rattle.a429_commands.specs.Profile.{IsProfileFault, WithContents}
-use Rattle.a429_commands.specs.Streaming.{IsFaultToCome}
+use Rattle.a429_commands.specs.Streaming.{IsFaultToCome, reported}
 
 -- a recording that is to be cut into parts of at most so many entries: what was taken of it, and whether its reader has failed
 pub record Task : Type 0 where
@@ -89,17 +89,19 @@ pub record PutsSomeParts (t : Task) (o : Placed) (p : Contents) (text : List ℕ
 -- by the fault that comes after the profile was read
 abbrev pub PutsPartsUntil : Task → Placed → RunFault → Contents → List ℕ → Type 0
 PutsPartsUntil t o (run.Read f) p text = PutsFirstParts t o f p text
+PutsPartsUntil t o run.NoPlace p text = PutsFirstParts t o read.TooMany p text
 PutsPartsUntil t o run.Device p text = PutsSomeParts t o p text
 PutsPartsUntil t o run.Memory p text = PutsSomeParts t o p text
 PutsPartsUntil t o e p text = ⊥
 
--- a recording has this fault, or more entries wait than a part may have
-abbrev pub IsFaultOfCut : Option Recording → ReadFault → Type 0
-IsFaultOfCut rec f = IsFaultToCome rec f ⊎ (f ≡ read.TooMany)
+-- how `cut` reports why no more parts are put: where more entries wait than a part may have, no place to cut is near enough
+abbrev pub reported_by_cut : ReadFault → RunFault
+reported_by_cut read.TooMany = run.NoPlace
+reported_by_cut f = reported f
 
--- why no more parts are put: such a fault; the reader or what takes the parts has failed; or out of memory
+-- why no more parts are put: the recording has a fault; no place is near enough; the reader or what takes the parts has failed; or out of memory
 abbrev pub IsPartsFault : Task → Placed → RunFault → Type 0
-IsPartsFault t o = ComesBy (record never { recording = IsFaultOfCut t.taken.recording; device = (t.failed ≡ true) ⊎ (o.failed ≡ true); memory = Unit {0} })
+IsPartsFault t o = ComesBy (record never { recording = IsFaultToCome t.taken.recording; no_place = Unit {0}; device = (t.failed ≡ true) ⊎ (o.failed ≡ true); memory = Unit {0} })
 
 -- with status 0 neither the reader nor what takes the parts has failed
 abbrev pub BothWork : Task → Placed → Type 0

@@ -49,6 +49,7 @@ Leaves profile at Failed (run.Cut k f) = ⊥
 Leaves profile at Failed run.TooLong = ⊥
 Leaves profile at Failed run.BadWord = ⊥
 Leaves profile at Failed run.Usage = ⊥
+Leaves profile at Failed run.NoPlace = ⊥
 Leaves profile at Failed run.OldFiles = ⊥
 Leaves profile at Failed (run.Map f) = ⊥
 Leaves profile at Failed (run.Export f) = ⊥

@@ -32,4 +32,5 @@ pub mod Cut
 pub mod Trace
 pub mod Blocks
 pub mod Version
+pub mod Help
 pub mod Why

@@ -44,16 +44,27 @@ const COMMANDS: [(&str, &[&str]); 25] = [
     ("make", &["PROFILE", "FILE"]),
 ];
 
-/// Reads the words after `a429`. The fault is `Memory` where memory was refused, and else `Usage`: no
-/// command or an unknown one, too few or too many words, an option, a wish for help, or a name to write to
-/// that is empty or written like the name of something to read.
+/// Reads the words after `a429`. `--help` or `-h` alone is a wish for help. The fault is `Memory` where memory was refused, and else
+/// `Usage`: no command or an unknown one, too few or too many words, an option, or a name to write to that is empty or written like
+/// the name of something to read.
 pub fn command<'a>(alloc: Global, words: &'a [String]) -> Result<Command<'a>, RunFault>
     ensures apart { IfOk result KeepsInputs }
     ensures err { IfErr result (λ e. (e ≡ RunFault.Memory) ⊎ (e ≡ RunFault.Usage)) }
 {
+    if is_for_help(words) {
+        return Ok(Command::Help);
+    }
     match parser(alloc)?.try_get_matches_from(words) {
         Ok(matches) => command_of(alloc, &matches),
         Err(error) => Err(fault_of(error.kind())),
+    }
+}
+
+// Whether these words ask for help, and for nothing else.
+fn is_for_help(words: &[String]) -> bool {
+    match words {
+        [word] => matches!(word.as_str(), "--help" | "-h"),
+        _ => false,
     }
 }
 

@@ -7,6 +7,7 @@ mod drawing;
 pub mod extract;
 pub mod folder;
 pub mod forms;
+pub mod help;
 pub mod history;
 pub mod import;
 pub mod keep;

@@ -22,8 +22,7 @@ pub enum RunFault {
     /// The profile has this fault, its first one.
     #[error("profile: {0}")]
     Profile(ProfileFault),
-    /// The recording has this fault, its first one; `TooMany` also where `make` would write more than 1,000,000 entries, and
-    /// where `cut` finds no place near enough.
+    /// The recording has this fault, its first one; `TooMany` also where `make` would write more than 1,000,000 entries.
     #[error("recording: {0}")]
     Read(ReadFault),
     /// The file at this place, from 0, can not be cut into link data units: it is `Empty` or `TooLong`.
@@ -38,6 +37,9 @@ pub enum RunFault {
     /// The span of a picture has more than 2,000 steps.
     #[error("picture: too long")]
     TooLong,
+    /// No place to cut a recording is near enough: more entries wait than a part may have.
+    #[error("cut: no place is near enough")]
+    NoPlace,
     /// The folder to write to has files of an earlier call, which would be taken for new ones.
     #[error("folder: has old files")]
     OldFiles,
@@ -91,6 +93,7 @@ impl RunFault {
             | RunFault::Map(_)
             | RunFault::Export(_)
             | RunFault::TooLong
+            | RunFault::NoPlace
             | RunFault::OldFiles => 3,
             RunFault::Device | RunFault::Memory => 4,
             RunFault::Usage => 5,

@@ -15,6 +15,7 @@ pub use crate::engines::cut::run_cut;
 pub use crate::engines::extract::run_extract;
 pub use crate::engines::folder::Folder;
 pub use crate::engines::forms::run_forms;
+pub use crate::engines::help::run_help;
 pub use crate::engines::history::run_history;
 pub use crate::engines::import::run_import;
 pub use crate::engines::keep::run_keep;

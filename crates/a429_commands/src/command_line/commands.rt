@@ -23,6 +23,8 @@ pub struct IntoFolder<'a> {
 /// A command of the program, with its words.
 #[derive(Drop)]
 pub enum Command<'a> {
+    /// `--help` or `-h`: lists the commands.
+    Help,
     /// `version`: names the version of the program, and those of the certificates that it reads.
     Version,
     /// `word HEX`: shows what a word holds.

@@ -5,14 +5,14 @@ ghost use Rattle.a429_word.specs.Tally.{has_failed};
 ghost use Rattle.a429_parts.specs.Keeping.{taken};
 ghost use Rattle.a429_commands.specs.Ends.{Ends};
 ghost use Rattle.a429_commands.specs.Output.{output};
-ghost use Rattle.a429_commands.specs.Cut.{of_cut, of_parts, placed, task, troubled, PutsList};
+ghost use Rattle.a429_commands.specs.Cut.{of_cut, of_parts, placed, reported_by_cut, task, troubled, PutsList};
 
 use crate::engines::profile::profile_of;
 use crate::engines::streaming::fault_of;
 use crate::fault::RunFault;
 use a429_parts::{Parts, put_parts};
 use a429_profile::Profile;
-use a429_record::EntryReader;
+use a429_record::{EntryReader, ReadFault};
 use a429_word::{Page, Sheet, Tally, Trouble};
 use std::alloc::Global;
 use std::io::{Read, Write};
@@ -27,7 +27,7 @@ struct Cut<'a> {
 
 /// Puts the parts of a recording, each with `most` entries at most, as it is read, writes the line of each to `out`,
 /// and in the end puts the list of all, which has the same lines; the status is 0. A part ends where the recording may
-/// be cut (`Cutter`). Where the recording has a fault, or no place to cut is near enough (`TooMany`), the parts before
+/// be cut (`Cutter`). Where the recording has a fault, or no place to cut is near enough (`NoPlace`), the parts before
 /// it are there, and no list. `profile` is the bytes of its text.
 pub fn run_cut<R: Read, P: Parts, W: Write>(
     alloc: Global,
@@ -95,8 +95,18 @@ fn write_parts<R: Read, P: Parts, W: Write>(
         }
         Err(fault) => {
             sheet.finish()?;
-            Err(fault_of(fault))
+            Err(fault_of_cut(fault))
         }
+    }
+}
+
+// Why no more parts are put: no place to cut is near enough, or what any command reports.
+fn fault_of_cut(fault: ReadFault) -> RunFault
+    ensures { result ≡ reported_by_cut fault }
+{
+    match fault {
+        ReadFault::TooMany => RunFault::NoPlace,
+        _ => fault_of(fault),
     }
 }
 

@@ -57,7 +57,7 @@ returns-clause-left g c =
     let put = written.all done in
     let works = says_works c.finish-in-Err.ensures.nothing_more done in
     let why = ends_by g.W.Write.contents c.args.cut.now.profile.now c.args.cut.now.most k c.put_parts.new.rec.failed o c.in-Err.fault until (λ is. but_sheet _ _ _ (c.in-Err.ensures.device (ap (λ (f : ReadFault). Err f) is)) works) in
-    rw c.fault_of.ensures (stopped _ (list_text until.parts) refl (leaves_until g.W.Write.contents c.args.cut.now.profile.now c.args.cut.now.most k _ o c.in-Err.fault until, why) (search rules) (search rules))
+    rw c.fault_of_cut.ensures (stopped _ (list_text until.parts) refl (leaves_until g.W.Write.contents c.args.cut.now.profile.now c.args.cut.now.most k _ o c.in-Err.fault until, why) (search rules) (search rules))
 
 pub returns-in_err-finish-in-Ok-clause-stays : goal.returns-in_err-finish-in-Ok-clause-stays
 returns-in_err-finish-in-Ok-clause-stays g c =
