@@ -9,10 +9,11 @@ use Rattle.a429_sink.specs.declared.owed.Owed.{Owed}
 use Rattle.a429_sink.specs.declared.owed.Owed.TheVariants as owed
 use Rattle.a429_sink.specs.Owed.{kinds_owed}
 use Rattle.a429_view.specs.Trace.{kinds_text}
+use Rattle.a429_view.specs.Verdict.{file_line}
 
 -- the line of a file: its number, and how many bytes it has
 abbrev pub crossed_line : Crossing → List ℕ
-crossed_line f = codes "file " ++ decimal f.number ++ codes " " ++ decimal f.bytes ++ codes "\n"
+crossed_line f = file_line (f.number, f.bytes)
 
 -- a sink that keeps the rules may have recorded this: the files that cross
 abbrev pub yes_lines : List Crossing → List ℕ

@@ -5,6 +5,7 @@ ghost use Rattle.a429_word.specs.Sheet.{Says};
 ghost use Rattle.a429_view.specs.Sink.{before_text, crossed_line, no_line, owed_text, sink_text, yes_lines};
 
 use crate::forms::put_named;
+use crate::verdict::put_file;
 use a429_link::Crossing;
 use a429_sink::{Owed, Refusal, SinkVerdict};
 use a429_word::Sheet;
@@ -35,17 +36,8 @@ pub(crate) fn put_files<W: Write>(sheet: &mut Sheet<'_, W>, files: &[Crossing])
     ensures { Says W.contents sheet.old sheet.new (flat_map crossed_line files.now) }
 {
     for file in files {
-        put_file(sheet, file);
+        put_file(sheet, file.number, file.bytes as u64);
     }
-}
-
-fn put_file<W: Write>(sheet: &mut Sheet<'_, W>, file: &Crossing)
-    ensures { Says W.contents sheet.old sheet.new (crossed_line file.now) }
-{
-    put_named(sheet, b"file ", file.number);
-    sheet.put(b" ");
-    sheet.put_number(file.bytes as u64);
-    sheet.put(b"\n");
 }
 
 fn put_no<W: Write>(sheet: &mut Sheet<'_, W>, refusal: &Refusal)
