@@ -14,7 +14,6 @@ pub mod Verdict
 pub mod Extract
 pub mod PartList
 pub mod Series
-pub mod MemoryPartSource
 pub mod Check
 pub mod Pack
 pub mod Upgrade

@@ -14,7 +14,6 @@ pub mod keep;
 pub mod labels;
 pub mod make;
 mod map;
-pub mod memory_part_source;
 pub mod new_file;
 mod old_files;
 pub mod pack;

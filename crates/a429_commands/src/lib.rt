@@ -21,7 +21,6 @@ pub use crate::engines::import::run_import;
 pub use crate::engines::keep::run_keep;
 pub use crate::engines::labels::run_labels;
 pub use crate::engines::make::run_make;
-pub use crate::engines::memory_part_source::{MemoryPartSource, PartBytes};
 pub use crate::engines::new_file::NewFile;
 pub use crate::engines::pack::run_pack;
 pub use crate::engines::part_folder::PartFolder;

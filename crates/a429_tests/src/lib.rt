@@ -32,8 +32,6 @@ mod sample;
 #[cfg(test)]
 mod search;
 #[cfg(test)]
-mod series;
-#[cfg(test)]
 mod side;
 #[cfg(test)]
 mod sink;
