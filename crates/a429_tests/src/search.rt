@@ -188,22 +188,20 @@ fn is_searched(alloc: Global, profile: &Profile) -> Result<bool, AllocError> {
     Ok(found.is_some() && none.is_none())
 }
 
-// Whether 9 data words of which 8 are recorded are filled up to the check word, and 8 stay without it.
+// Whether 9 data words of which 8 are recorded are filled up to the check word, and 8 are not.
 fn is_completed(alloc: Global, profile: &Profile) -> Result<bool, AllocError> {
     let recorded = words_of(alloc, profile, b"12345678")?;
-    let (nine, eight) = (
-        Wanted {
-            count: 9,
-            check: Some(0x906E),
-        },
-        Wanted {
-            count: 8,
-            check: Some(0x906E),
-        },
-    );
+    let nine = Wanted {
+        count: 9,
+        check: Some(0x906E),
+    };
+    let eight = Wanted {
+        count: 8,
+        check: Some(0x906E),
+    };
     let filled = completed(alloc, profile, &recorded, nine)?;
     let whole = completed(alloc, profile, &recorded, eight)?;
-    Ok(matches!(filled, Some(words) if words.len() == 9) && whole.is_none())
+    Ok(filled.is_some() && whole.is_none())
 }
 
 // Whether the bits that turn 0 into 1 are found by their check word, and none for one that no such bits have.
