@@ -4,7 +4,7 @@ use Rattle.a429_profile.specs.Profile.{Contents}
 use Rattle.a429_record.specs.declared.entry.Entry.{Entry}
 use Rattle.a429_record.specs.Recording.{stands_for, whole}
 use Rattle.a429_link.specs.declared.file.FileBytes.{FileBytes}
-use Rattle.a429_cert.specs.Explained.{items_of, IsExplained, AreInEveryRun}
+use Rattle.a429_cert.specs.Explained.{items_of, IsExplained, AreDeliveredInEveryRun, IncludeSettledOfEveryRun}
 use Rattle.a429_cert.specs.declared.fault.CertFault.{CertFault}
 use Rattle.a429_cert.specs.declared.fault.CertFault.TheVariants.{Version, Line, NotAllowed, StateDiffers, WordDiffers, Unfinished, OutOfMemory}
 use Rattle.a429_cert.specs.Fault.{IsFirstCertFault}
@@ -19,7 +19,8 @@ pub record ExplainsUnder (p : Contents) (recording certificate : List ℕ) (file
   pub entries : List Entry
   pub is_recording : stands_for recording ≡ whole entries
   pub explained : IsExplained p certificate (items_of entries) files
-  pub every_run : AreInEveryRun p (items_of entries) files
+  pub every_run : AreDeliveredInEveryRun p (items_of entries) files
+  pub settled : IncludeSettledOfEveryRun p (items_of entries) files
 
 -- this is the first fault of the certificate
 pub record IsRefusedUnder (p : Contents) (recording certificate : List ℕ) (f : CertFault) : Type 0 where

@@ -211,10 +211,16 @@ in_some_run p certificate items files h =
 
 -- what one run delivers, each run with its trace delivers
 pub some_in_every : (p : Contents) → IsProfile p → (items : List Seen) (files : List FileBytes) → AreInSomeRun p items files → AreInEveryRun p items files
-some_in_every p is items files own = λ f steps byte run same.
-    let read = is_read p is in
-    let these : files ≡ delivered p f steps = own.gives ∙ same_delivered p own.first f own.steps steps read own.byte byte own.run run (own.recorded ∙ sym same) in
-    (these, subst (λ (l : List FileBytes). IsSubsequenceOf l (offered p f steps)) (sym these) (delivered_subsequence p f steps read byte run), subst (λ (l : List FileBytes). IsSubsequenceOf (settled p f steps) l) (sym these) (settled_subsequence p f steps read byte run))
+some_in_every p is items files own = record {
+  delivered = λ f steps byte run same.
+      let these = delivers f steps byte run same in
+      (these, subst (λ (l : List FileBytes). IsSubsequenceOf l (offered p f steps)) (sym these) (delivered_subsequence p f steps (is_read p is) byte run));
+  settled = λ f steps byte run same.
+      subst (λ (l : List FileBytes). IsSubsequenceOf (settled p f steps) l) (sym (delivers f steps byte run same)) (settled_subsequence p f steps (is_read p is) byte run);
+}
+  where
+    delivers : (f : ℕ) (steps : List Step) → f ≤ 255 → IsRun p steps (start p f) → trace steps ≡ items → files ≡ delivered p f steps
+    delivers f steps byte run same = own.gives ∙ same_delivered p own.first f own.steps steps (is_read p is) own.byte byte own.run run (own.recorded ∙ sym same)
 
 pub in_every_run : (p : Contents) → IsProfile p → (certificate : List ℕ) (items : List Seen) (files : List FileBytes) → IsExplained p certificate items files → AreInEveryRun p items files
 in_every_run p is certificate items files h = some_in_every p is items files (in_some_run p certificate items files h)

@@ -9,7 +9,7 @@ use Rattle.a429_ldu.specs.CheckWord.{check_of}
 use Rattle.a429_ldu.specs.Ldu.{LduValue, IsLdu, IsFirstLduFault}
 use Rattle.a429_ldu.specs.declared.fault.LduFault.{LduFault}
 use Rattle.a429_ldu.specs.declared.fault.LduFault.TheVariants as unit
-use Rattle.a429_ldu.proofs.CarriedFacts.{carried_of}
+use Rattle.a429_ldu.proofs.CarriedFacts.{carries_of, carried_of}
 use Rattle.a429_link.specs.State.{states_of, State}
 use Rattle.a429_link.specs.declared.seen.Seen.{Seen}
 use Rattle.a429_link.specs.declared.step.Step.{Step}
@@ -114,9 +114,9 @@ ready_other p act.GiveUp s a b = tt
 -- what Ldu::new refuses is none
 no_unit_is : (p : Contents) → IsProfile p → (u : LduValue) (f : LduFault) → IsFirstLduFault p u.check u.words f → IsLdu p u → ⊥
 no_unit_is p is v unit.Count h u = h u.length
-no_unit_is p is v unit.NotBytes h u = h.1 u.bytes u.carries
+no_unit_is p is v unit.NotBytes h u = h.1 u.bytes (carries_of p is v.words u.bytes u.carries)
 no_unit_is p is v unit.CheckWrong h u =
-    let same : h.1 ≡ u.bytes = some_is h.1 u.bytes (sym (carried_of p is v.words h.1 h.2) ∙ carried_of p is v.words u.bytes u.carries) in
+    let same : h.1 ≡ u.bytes = some_is h.1 u.bytes (sym (carried_of p is v.words h.1 h.2) ∙ u.carries) in
     h.4 (u.checked h.3 ∙ ap (check_of p.check) (sym same))
 no_unit_is p is v unit.OutOfMemory h u = h
 

@@ -1,13 +1,13 @@
 -- A replay along a certificate's lines over a recording, where both are told.
-use Rattle.std.proofs.Common.{◌≡◌, ◌≤◌, ◌+◌, ◌∙◌, ◌++◌, ℕ, suc, List, [], length, drop, true, Option, Some, None, slice_get, refl, sym, ap, subst, arith, append-nil, false, Ok}
+use Rattle.std.proofs.Common.{◌≡◌, ◌≤◌, ◌+◌, ◌∙◌, ◌++◌, ℕ, suc, List, [], length, drop, true, Option, Some, None, slice_get, refl, sym, ap, subst, arith, append-nil, false, Ok, Err, Result, IfOk, Vec}
 use Rattle.a429_profile.specs.Profile.{IsProfile}
 use Rattle.a429_record.specs.Recording.{whole}
 use Rattle.a429_record.specs.Rows.{GivesNext}
 use Rattle.a429_cert.specs.Explained.{items_of, IsExplained}
-use Rattle.a429_cert.specs.StreamExplained.{IsYes}
+use Rattle.a429_cert.specs.StreamExplained.{IsYes, IsSomeRun, Compared, Extracts, ExtractsOfRun, SaysYes, SaysFilesOfRun}
 use Rattle.a429_cert.specs.Stream.{next_of}
 use Rattle.a429_cert.proofs.Options.{some_is}
-use Rattle.a429_cert.proofs.ExplainedFacts.{drop_get, none_past, none_read, explained, in_every_run}
+use Rattle.a429_cert.proofs.ExplainedFacts.{drop_get, none_past, none_read, explained, in_some_run, in_every_run}
 use Rattle.a429_cert.proofs.StreamStands.{AreLeftAfter, next_at}
 use Rattle.std.specs.Io.KnownBytes.{prepend_known}
 use Rattle.a429_profile.specs.Profile.{Contents}
@@ -27,7 +27,8 @@ use Rattle.a429_cert.specs.StreamHead.{TakesHead}
 use Rattle.a429_cert.specs.StreamExplained.{WhereBothKnown}
 use Rattle.a429_cert.proofs.ExplainedFacts.{begins}
 use Rattle.a429_cert.proofs.StreamStands.{Stands, goes_on, hands_out}
-use Rattle.a429_cert.specs.Change.{change}
+use Rattle.a429_cert.specs.declared.shelf.PutFile.{PutFile}
+use Rattle.a429_cert.specs.Change.{Change, change}
 
 -- ---- where both are told
 
@@ -106,3 +107,16 @@ pub yes_both_known : (p : Contents) (d : Head) (k i : ℕ) (taken : List FileByt
     → WhereBothKnown known start_rec (λ text r. Stands p text r d k i taken s left rec) → WhereBothKnown known start_rec (IsYes p taken)
 yes_both_known p d k i taken s held left more known start_rec rec new is none g e =
     both_known_map known start_rec (λ text r. Stands p text r d k i taken s left rec) (IsYes p taken) (λ text r h. yes p d k i taken s held left more rec new text r is none g e h)
+
+-- what is extracted some run delivers
+of_some_run : (c : Compared) (shelf : Change (Option (List PutFile))) (answer : List (ℕ × ℕ)) → Extracts c shelf answer → ExtractsOfRun c shelf answer
+of_some_run c shelf answer h = record {
+  files = h.files;
+  some = both_known_map c.certificate c.recording (IsYes c.profile h.files) (IsSomeRun c.profile h.files) (λ text r yes. in_some_run c.profile text (items_of r.entries) h.files yes.1) h.yes;
+  put = h.put;
+  answered = h.answered;
+}
+
+pub run_of_answer : {Z E : Type 0} (c : Compared) (shelf : Change (Option (List PutFile))) (r : Result (Vec (ℕ × ℕ) Z) E) → IfOk r (SaysYes c shelf) → IfOk r (SaysFilesOfRun c shelf)
+run_of_answer c shelf (Ok a) h = of_some_run c shelf a.items h
+run_of_answer c shelf (Err e) h = tt

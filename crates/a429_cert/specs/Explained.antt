@@ -109,7 +109,15 @@ pub record AreInSomeRun (p : Contents) (items : List Seen) (files : List FileByt
   pub gives : files ≡ delivered p first steps
 
 -- in each run that records these words and no others, whatever it loses out of sight, these files are
--- delivered, they are some of those that its source offered, in their order, and those that its source
--- takes as acknowledged are some of them, in their order
-abbrev pub AreInEveryRun : Contents → List Seen → List FileBytes → Type 0
-AreInEveryRun p items files = (first : ℕ) (steps : List Step) → first ≤ 255 → IsRun p steps (start p first) → trace steps ≡ items → (files ≡ delivered p first steps) × IsSubsequenceOf files (offered p first steps) × IsSubsequenceOf (settled p first steps) files
+-- delivered, and they are some of those that its source offered, in their order
+abbrev pub AreDeliveredInEveryRun : Contents → List Seen → List FileBytes → Type 0
+AreDeliveredInEveryRun p items files = (first : ℕ) (steps : List Step) → first ≤ 255 → IsRun p steps (start p first) → trace steps ≡ items → (files ≡ delivered p first steps) × IsSubsequenceOf files (offered p first steps)
+
+-- in each such run those that its source takes as acknowledged are some of these files, in their order
+abbrev pub IncludeSettledOfEveryRun : Contents → List Seen → List FileBytes → Type 0
+IncludeSettledOfEveryRun p items files = (first : ℕ) (steps : List Step) → first ≤ 255 → IsRun p steps (start p first) → trace steps ≡ items → IsSubsequenceOf (settled p first steps) files
+
+-- both
+pub record AreInEveryRun (p : Contents) (items : List Seen) (files : List FileBytes) : Type 0 where
+  pub delivered : AreDeliveredInEveryRun p items files
+  pub settled : IncludeSettledOfEveryRun p items files

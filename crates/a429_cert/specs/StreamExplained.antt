@@ -18,7 +18,7 @@ use Rattle.a429_cert.specs.declared.stream_fault.StreamFault.{StreamFault}
 use Rattle.a429_cert.specs.declared.stream_fault.StreamFault.TheVariants as stream
 use Rattle.a429_cert.specs.declared.explained.Head.{Head}
 use Rattle.a429_cert.specs.Version.{step_lines}
-use Rattle.a429_cert.specs.Explained.{items_of, Reaches, IsExplained, AreInEveryRun}
+use Rattle.a429_cert.specs.Explained.{items_of, Reaches, IsExplained, AreInSomeRun, AreInEveryRun}
 use Rattle.a429_cert.specs.Fault.{HasHead, IsFaultOfHead, IsLaterFault, IsFirstCertFault}
 use Rattle.a429_cert.specs.Change.{Change}
 use Rattle.a429_cert.specs.Report.{Report, reports_of_run, Listening, IsHeard}
@@ -56,9 +56,24 @@ pub record Extracts (c : Compared) (shelf : Change (Option (List PutFile))) (ans
   pub put : GainsAll shelf.old shelf.new 1 files
   pub answered : answer ≡ sizes files
 
+-- some run records the words of the recording and no others, and delivers such files; certificate and recording are known
+abbrev pub IsSomeRun : Contents → List FileBytes → List ℕ → Recording → Type 0
+IsSomeRun p files text r = AreInSomeRun p (items_of r.entries) files
+
+-- files that some run of the recorded words delivers are put, from place 1 on, and their numbers and lengths are the answer
+pub record ExtractsOfRun (c : Compared) (shelf : Change (Option (List PutFile))) (answer : List (ℕ × ℕ)) : Type 0 where
+  pub files : List FileBytes
+  pub some : WhereBothKnown c.certificate c.recording (IsSomeRun c.profile files)
+  pub put : GainsAll shelf.old shelf.new 1 files
+  pub answered : answer ≡ sizes files
+
 -- the answer is those of such files
 abbrev pub SaysYes : {Z : Type 0} → Compared → Change (Option (List PutFile)) → Vec (ℕ × ℕ) Z → Type 0
 SaysYes c shelf answer = Extracts c shelf answer.items
+
+-- the answer is those of files that some run delivers
+abbrev pub SaysFilesOfRun : {Z : Type 0} → Compared → Change (Option (List PutFile)) → Vec (ℕ × ℕ) Z → Type 0
+SaysFilesOfRun c shelf answer = ExtractsOfRun c shelf answer.items
 
 -- a listener has heard the run by which the certificate explains the recording, where both are known
 abbrev pub HearsRun : {T : Type 0} → Listening T → Compared → Type 0

@@ -5,7 +5,7 @@ ghost use Rattle.a429_link.specs.Link.{handed_out};
 ghost use Rattle.a429_cert.specs.declared.line.CertLine.TheVariants.{First};
 ghost use Rattle.a429_cert.specs.Line.{spelling};
 ghost use Rattle.a429_cert.specs.Lines.{line_bytes};
-ghost use Rattle.a429_cert.specs.Explained.{items_of, IsExplained, AreInSomeRun, AreInEveryRun};
+ghost use Rattle.a429_cert.specs.Explained.{items_of, IsExplained, AreInSomeRun, AreDeliveredInEveryRun, IncludeSettledOfEveryRun};
 ghost use Rattle.a429_cert.specs.Fault.{file_in, Begins, IsNoFirst, IsFaultOfHead, IsFirstCertFault, UnlessMemory};
 
 use crate::at::At;
@@ -24,8 +24,8 @@ use std::alloc::Global;
 
 /// Holds a certificate against the entries of a recording, under a profile. Where it
 /// explains them by a run of source and sink, the answer is the files that this run delivers, and each
-/// other run that records the same words delivers the same. Else the fault is the first one in the
-/// order of the lines.
+/// other run that records the same words delivers the same: some of those that its source offered, among them all that
+/// the source takes as acknowledged. Else the fault is the first one in the order of the lines.
 pub fn verify(
     alloc: Global,
     profile: &Profile,
@@ -34,7 +34,8 @@ pub fn verify(
 ) -> Result<Verified, CertFault>
     ensures ok { IfOk result (λ files. IsExplained profile.now certificate.now (items_of entries.now) files) }
     ensures some_run { IfOk result (λ files. AreInSomeRun profile.now (items_of entries.now) files) }
-    ensures every_run { IfOk result (λ files. AreInEveryRun profile.now (items_of entries.now) files) }
+    ensures every_run { IfOk result (λ files. AreDeliveredInEveryRun profile.now (items_of entries.now) files) }
+    ensures settled { IfOk result (λ files. IncludeSettledOfEveryRun profile.now (items_of entries.now) files) }
     ensures err { IfErr result (UnlessMemory (IsFirstCertFault profile.now certificate.now (items_of entries.now))) }
 {
     let mut lines = Lines::new(certificate);

@@ -14,7 +14,7 @@ ghost use Rattle.a429_cert.specs.Version.{read_as};
 ghost use Rattle.a429_cert.specs.Passing.{IsReady, PassesListed, uses_listed};
 ghost use Rattle.a429_word.specs.Tally.{has_failed};
 ghost use Rattle.a429_cert.specs.Explained.{seen_of};
-ghost use Rattle.a429_cert.specs.StreamExplained.{comparison, SaysYes, HearsRun, HearsBefore, Refuses};
+ghost use Rattle.a429_cert.specs.StreamExplained.{comparison, SaysYes, SaysFilesOfRun, HearsRun, HearsBefore, Refuses};
 ghost use Rattle.a429_cert.specs.BreakOff.{BreaksOff, readers, shelved};
 ghost use Rattle.a429_cert.specs.Report.{listening, TriesSome, IsNextEntry, with_number};
 ghost use Rattle.a429_cert.specs.Stream.{taking, IsFaultNext, TakesNext, ReplaysNext, EndsNext, TellsListed, HearsNext, IsNotTaken, IsUnreported, ReplaysLine, EndsReplay, HearsLine, WantsEntry, GivesFor, GivesAtFault};
@@ -59,6 +59,7 @@ pub fn verify_stream<R: Read, C: Read, S: Shelf>(
     shelf: &mut S,
 ) -> Result<Vec<(u8, u32)>, StreamFault>
     ensures ok { IfOk result (SaysYes (comparison profile.now C.remaining cert.old rec.old) (change (S.files shelf.old) (S.files shelf.new))) }
+    ensures some_run { IfOk result (SaysFilesOfRun (comparison profile.now C.remaining cert.old rec.old) (change (S.files shelf.old) (S.files shelf.new))) }
     ensures err { IfErr result (Refuses (comparison profile.now C.remaining cert.old rec.old) (change (S.files shelf.old) (S.files shelf.new))) }
     ensures place { IfErr result (BreaksOff profile.now (readers C.remaining cert.old cert.new rec.old rec.new)
         (shelved S.files S.failed shelf.old shelf.new) false) }

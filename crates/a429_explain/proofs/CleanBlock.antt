@@ -14,7 +14,7 @@ use Rattle.a429_ldu.specs.Sight.{sight_of, sight_in}
 use Rattle.a429_ldu.specs.Carried.{AreDataWords}
 use Rattle.a429_ldu.specs.CheckWord.{check_of}
 use Rattle.a429_ldu.specs.Ldu.{LduValue, IsLdu, count_of, block_of}
-use Rattle.a429_ldu.proofs.CarriedFacts.{carried_of}
+use Rattle.a429_ldu.proofs.CarriedFacts.{carries_of}
 use Rattle.a429_ldu.proofs.FormFacts.{form_of-is, form_is_not_free, form_of-word_number}
 use Rattle.a429_link.specs.declared.seen.Seen.{Seen}
 use Rattle.a429_link.specs.Clean.{clean_block}
@@ -58,11 +58,12 @@ pub has_forms : (p : Contents) → IsProfile p → (place : UnitNumber) (u : Ldu
 has_forms p is place u h f l =
     let few = h.length.1 in
     let some = h.length.0 in
+    let carries = carries_of p is u.words h.bytes h.carries in
     record {
       request = form_of-word_number p is (Rts (count_of u)) (omega arith, omega arith);
       clear = form_of-word_number p is (Cts (count_of u)) (omega arith, omega arith);
       start = form_of-word_number p is (Sot u.gfi place.file place.ldu) (h.gfi, f, l);
-      parts = data_parts p is u.words h.carries.semis h.carries.words;
+      parts = data_parts p is u.words carries.semis carries.words;
       end = form_of-word_number p is (Eot u.flags u.check) (h.flags, h.check);
       settled = form_of-word_number p is (Ack place.file place.ldu) (f, l);
     }
@@ -123,7 +124,7 @@ block_others p place u s k =
 
 pub whole_of : (p : Contents) → IsProfile p → (count : ℕ) (u : LduValue) → IsLdu p u → count_of u ≡ count → is_whole p count u.words u.check ≡ true
 whole_of p is count u h e =
-    let carried = carried_of p is u.words h.bytes h.carries in
+    let carried = h.carries in
     rw (eq-eqb (length u.words + 2) count e) (rw carried (compared p.check.compare refl))
   where
     compared : (b : Bool) → p.check.compare ≡ b → (not p.check.compare || eqb u.check (check_of p.check h.bytes)) ≡ true

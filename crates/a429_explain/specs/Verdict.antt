@@ -6,7 +6,7 @@ use Rattle.a429_ldu.specs.declared.sight.Sight.TheVariants as sight
 use Rattle.a429_ldu.specs.Sight.{sight_of}
 use Rattle.a429_link.specs.declared.seen.Seen.{Seen}
 use Rattle.a429_link.specs.Run.{BeginsARun}
-use Rattle.a429_cert.specs.Explained.{IsExplained, AreInEveryRun}
+use Rattle.a429_cert.specs.Explained.{IsExplained, AreInSomeRun, AreInEveryRun}
 use Rattle.a429_explain.specs.Explanation.{HasNoFault, HasLeastVersion}
 use Rattle.a429_explain.specs.declared.verdict.Verdict.{Verdict}
 use Rattle.a429_explain.specs.declared.verdict.Verdict.TheVariants.{Explained, Impossible, Unexplained}
@@ -20,6 +20,11 @@ use Rattle.a429_explain.specs.Guess.{HasNoDoubt, IsFirstStop}
 abbrev pub IsSoundVerdict : Contents → List Seen → Verdict → Type 0
 IsSoundVerdict p items (Explained certificate files) = IsExplained p certificate items files × AreInEveryRun p items files
 IsSoundVerdict p items _ = Unit {0}
+
+-- some run records these words and no others, and delivers the files
+abbrev pub IsOfSomeRun : Contents → List Seen → Verdict → Type 0
+IsOfSomeRun p items (Explained certificate files) = AreInSomeRun p items files
+IsOfSomeRun p items _ = Unit {0}
 
 -- in the certificate there is no fault, so `verify` accepts it, unless it is out of memory
 abbrev pub IsAccepted : Contents → List Seen → Verdict → Type 0

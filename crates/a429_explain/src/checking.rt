@@ -8,7 +8,7 @@ ghost use Rattle.a429_explain.specs.Explanation.{IsExplanationOf};
 ghost use Rattle.a429_explain.specs.Guess.{first_place, HasNoDoubt, IsFirstStop};
 ghost use Rattle.a429_explain.specs.Planner.{with_roles, IsPlannedTo};
 ghost use Rattle.a429_explain.specs.Stop.{IsStop};
-ghost use Rattle.a429_explain.specs.Verdict.{IsSoundVerdict, IsAccepted, IsOfLeastVersion, IsImpossible, IsDoubted, IsFirst, HasNoForm, IsImpossibility, IsExplanation};
+ghost use Rattle.a429_explain.specs.Verdict.{IsSoundVerdict, IsOfSomeRun, IsAccepted, IsOfLeastVersion, IsImpossible, IsDoubted, IsFirst, HasNoForm, IsImpossibility, IsExplanation};
 ghost use Rattle.a429_explain.specs.WithoutLoss.{IsWithoutLoss};
 
 use crate::attempts::{Role, roles};
@@ -31,6 +31,7 @@ use std::alloc::Global;
 /// is of version 2 exactly where its run gives a file up.
 pub fn check(alloc: Global, profile: &Profile, entries: &[Entry]) -> Result<Verdict, OutOfMemory>
     ensures explained { IfOk result (λ v. IsSoundVerdict profile.now (items_of entries.now) v) }
+    ensures some_run { IfOk result (λ v. IsOfSomeRun profile.now (items_of entries.now) v) }
     ensures accepted { IfOk result (λ v. IsAccepted profile.now (items_of entries.now) v) }
     ensures version { IfOk result (λ v. IsOfLeastVersion profile.now (items_of entries.now) v) }
     ensures impossible { IfOk result (λ v. IsImpossible profile.now (items_of entries.now) v) }

@@ -15,7 +15,7 @@ use Rattle.a429_ldu.specs.Cut.{unit_of, room, pieces, final_flag, units_in, unit
 use Rattle.a429_ldu.specs.Filling.{data_words}
 use Rattle.a429_ldu.proofs.CarriedFacts.{carried_of}
 use Rattle.a429_ldu.proofs.CheckWordFacts.{check_of-lt}
-use Rattle.a429_ldu.proofs.CutPieces.{IsPiece, carry, room-most, unit-words, unit-sound, pieces-cut}
+use Rattle.a429_ldu.proofs.CutPieces.{IsPiece, carry, room-most, unit-words, words-least, words-most, pieces-cut}
 
 -- ---- flags
 
@@ -60,6 +60,18 @@ flag_made p is c e = rw e (record { low = r.final_low; high = omega (arith, r.fi
 
 wider : (m n : ℕ) (bs : List ℕ) → m ≤ n → IsPiece m bs → IsPiece n bs
 wider m n bs h piece = record { small = piece.small; some = piece.some; most = let most = piece.most in omega arith }
+
+-- the unit of a piece is one of the profile
+unit-sound : (p : Contents) → IsProfile p → (bs : List ℕ) (flags : ℕ) → flags ≤ 15 → check_of p.check bs ≤ 65535 → IsPiece 632 bs → IsLdu p (unit_of p bs flags)
+unit-sound p is bs flags hf hc piece = record {
+  gfi = omega arith;
+  flags = hf;
+  check = hc;
+  length = (words-least p bs piece.some, words-most p bs 253 (let most = piece.most in omega arith));
+  bytes = bs;
+  carries = carried_of p is (data_words p.codes bs) bs (carry p is bs piece.small piece.some);
+  checked = λ _. refl;
+}
 
 pub unit : (p : Contents) → IsProfile p → (m : ℕ) (bs : List ℕ) (flags : ℕ) → m ≤ 632 → flags ≤ 15 → IsPiece m bs → IsLdu p (unit_of p bs flags)
 unit p is m bs flags hm hf piece = let r = in_range p is in unit-sound p is bs flags hf (check_of-lt p.check bs r.xor) (wider m 632 bs hm piece)

@@ -8,8 +8,7 @@ use Rattle.a429_ldu.specs.declared.forms.Form.TheVariants.{Part}
 use Rattle.a429_ldu.specs.Semis.{semis_of_bytes}
 use Rattle.a429_ldu.specs.Form.{word_number}
 use Rattle.a429_ldu.specs.Carried.{AreDataWords, CarryBytes}
-use Rattle.a429_ldu.specs.CheckWord.{check_of}
-use Rattle.a429_ldu.specs.Ldu.{IsLdu, count_of}
+use Rattle.a429_ldu.specs.Ldu.{count_of}
 use Rattle.a429_ldu.specs.Cut.{unit_of, room, pieces, HaveSizes}
 use Rattle.a429_ldu.specs.Filling.{data_words, fives}
 use Rattle.a429_ldu.proofs.FormFacts.{word_number-is}
@@ -106,17 +105,6 @@ room-words w n h k = omega arith
 
 pub unit-words : (p : Contents) (bs : List ℕ) (max_words flags : ℕ) → 3 ≤ max_words → IsPiece (room max_words) bs → count_of (unit_of p bs flags) ≤ max_words
 unit-words p bs w flags h piece = let most = words-most p bs (w - 2) (room-words w (length bs) h piece.most) in omega arith
-
-pub unit-sound : (p : Contents) → IsProfile p → (bs : List ℕ) (flags : ℕ) → flags ≤ 15 → check_of p.check bs ≤ 65535 → IsPiece 632 bs → IsLdu p (unit_of p bs flags)
-unit-sound p is bs flags hf hc piece = record {
-  gfi = omega arith;
-  flags = hf;
-  check = hc;
-  length = (words-least p bs piece.some, words-most p bs 253 (let most = piece.most in omega arith));
-  bytes = bs;
-  carries = carry p is bs piece.small piece.some;
-  checked = λ _. refl;
-}
 
 -- ---- pieces
 

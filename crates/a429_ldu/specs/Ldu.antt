@@ -1,5 +1,5 @@
 -- Link data units (ARINC 429 Part 3; their lengths are this project's choice, profile).
-use Rattle.std.specs.Prelude.{ℕ, ◌+◌, ◌-◌, ◌≤◌, ◌≡◌, ◌≢◌, ◌==◌, Bool, true, List, [], ◌∷◌, ◌++◌, length}
+use Rattle.std.specs.Prelude.{ℕ, ◌+◌, ◌-◌, ◌≤◌, ◌≡◌, ◌≢◌, ◌==◌, Bool, true, List, [], ◌∷◌, ◌++◌, length, Some}
 use Rattle.std.specs.Int.{bit_at}
 use Rattle.a429_profile.specs.declared.codes.Codes.{Codes}
 use Rattle.a429_profile.specs.Profile.{Contents}
@@ -7,7 +7,7 @@ use Rattle.a429_ldu.specs.declared.forms.Form.TheVariants.{Sot, Eot}
 use Rattle.a429_ldu.specs.declared.fault.LduFault.{LduFault}
 use Rattle.a429_ldu.specs.declared.fault.LduFault.TheVariants.{Count, NotBytes, CheckWrong, OutOfMemory}
 use Rattle.a429_ldu.specs.Form.{word_number}
-use Rattle.a429_ldu.specs.Carried.{CarryBytes, bytes_in}
+use Rattle.a429_ldu.specs.Carried.{CarryBytes, bytes_carried, bytes_in}
 use Rattle.a429_ldu.specs.CheckWord.{check_of}
 
 -- what a link data unit says: its general format identifier, its flags, its check word and its data words
@@ -51,7 +51,7 @@ pub record IsLdu (p : Contents) (u : LduValue) : Type 0 where
   pub check : u.check ≤ 65535
   pub length : HasLength u.words
   pub bytes : List ℕ
-  pub carries : CarryBytes p.codes u.words bytes
+  pub carries : bytes_carried p.codes u.words ≡ Some bytes
   -- the check word is that of its bytes, unless the profile compares none
   pub checked : p.check.compare ≡ true → u.check ≡ check_of p.check bytes
 

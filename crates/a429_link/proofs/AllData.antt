@@ -9,7 +9,6 @@ use Rattle.a429_ldu.specs.declared.forms.Form.TheVariants as form
 use Rattle.a429_ldu.specs.Form.{form_of, word_number}
 use Rattle.a429_ldu.specs.Ldu.{LduValue, IsLdu, block_of}
 use Rattle.a429_ldu.specs.Carried.{bytes_carried}
-use Rattle.a429_ldu.proofs.CarriedFacts.{carried_of}
 use Rattle.a429_link.specs.declared.number.UnitNumber.{UnitNumber}
 use Rattle.a429_link.specs.declared.seen.Seen.{Seen}
 use Rattle.a429_link.specs.Attempt.{Attempt, IsAttemptAt, asks, attempts_from, fresh, goes_on_to, grown, latest, latest_from, under_way}
@@ -129,7 +128,7 @@ all_carry p sound good words a same s half =
     let of_unit = subst (λ (l : List ℕ). IsSubsequenceOf l t.unit.words) same (subst (IsSubsequenceOf (data_words p.codes a.words)) (data_block p good t.unit t.number s.sound.unit s.sound.file ldu) of_block) in
     let count : length words ≡ length t.unit.words = omega arith in
     let all = sub_all words t.unit.words count of_unit in
-    let some = carried_of p sound t.unit.words s.sound.unit.bytes s.sound.unit.carries in
+    let some = s.sound.unit.carries in
     let none : bytes_carried p.codes t.unit.words ≡ None = subst (λ (l : List ℕ). bytes_carried p.codes l ≡ None) all half.1 in
     cc (some, none)
 

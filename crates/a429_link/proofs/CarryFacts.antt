@@ -22,6 +22,7 @@ use Rattle.a429_link.specs.Run.{IsRun}
 use Rattle.a429_link.proofs.LinkKept.{kept_holds}
 use Rattle.a429_link.proofs.LossesFacts.{kept_run}
 use Rattle.a429_link.proofs.StateHolds.{Current}
+use Rattle.a429_ldu.proofs.CarriedFacts.{carries_of}
 
 -- ---- a word inside a block is a data word
 
@@ -45,7 +46,7 @@ part_there : (p : Contents) (s : State) (u : LduValue) (k w : ℕ) → IsKept p 
 part_there p s u zero w kept current phase least more next = absurd (omega arith)
 part_there p s u (suc j) w kept current phase least more next =
     let unit : Current p (Some u) s.source.number.ldu = subst (λ o. Current p o s.source.number.ldu) current (kept_holds p s kept).current in
-    let carries = unit.2.carries in
+    let carries = carries_of p kept.sound u.words unit.2.bytes unit.2.carries in
     let place = rw (current, phase) at next in
     let here = inside u.words _ j w place (λ q. absurd (omega (arith, q, more))) in
     let form = data_word p.codes u.words carries.semis j w carries.words here in

@@ -21,7 +21,6 @@ use Rattle.a429_ldu.specs.declared.forms.Form.{Form}
 use Rattle.a429_ldu.specs.declared.forms.Form.TheVariants as form
 use Rattle.a429_ldu.specs.Carried.{bytes_carried, bytes_in}
 use Rattle.a429_ldu.specs.CheckWord.{check_of, agrees}
-use Rattle.a429_ldu.proofs.CarriedFacts.{carried_of}
 use Rattle.a429_link.specs.Clean.{clean_block, clean_blocks, AllFit, shelved, without_free, requests, replies, block_steps, clean_steps, all_steps, first_of, rest_of, weave}
 use Rattle.a429_link.specs.Carry.{on_a, on_b, sends_word}
 use Rattle.a429_link.proofs.MessageRead.{is_read}
@@ -142,7 +141,7 @@ pub record Sound (p : Contents) (u : LduValue) : Type 0 where
 
 pub sound : (p : Contents) → IsProfile p → (u : LduValue) → IsLdu p u → Sound p u
 sound p is u h =
-    let carried = carried_of p is u.words h.bytes h.carries in
+    let carried = h.carries in
     record {
       fit = (is_read p is).fit u h;
       carried = ap is_some carried;

@@ -11,6 +11,7 @@ use Rattle.a429_ldu.specs.declared.forms.Form.TheVariants as form
 use Rattle.a429_ldu.specs.Carried.{AreDataWords}
 use Rattle.a429_ldu.proofs.LduFacts.{few_bytes}
 use Rattle.a429_ldu.proofs.FormFacts.{form_of-is, form_of-word_number, form_is_not_free}
+use Rattle.a429_ldu.proofs.CarriedFacts.{carries_of}
 
 -- what is said is read
 reads_back : (p : Contents) → IsProfile p → (b : Bus) (x : Message) → InRange p b x → message_of p b (word_of p x) ≡ Some x
@@ -49,11 +50,11 @@ is_read p is = record {
   first = (in_range p is).first_ldu;
   reads = reads_back p is;
   free = λ b w e. none_where (is_free p.codes b w) (nat_le (2 ^ 32) w) (form_on p.codes b (fields_of w)) e;
-  fit = λ u h. record {
+  fit = λ u h. let carries = carries_of p is u.words h.bytes h.carries in record {
     gfi = h.gfi;
     flags = h.flags;
     check = h.check;
-    parts = data_parts p is u.words h.carries.semis h.carries.words;
+    parts = data_parts p is u.words carries.semis carries.words;
     room = h.length.1;
     some = h.length.0;
     bytes_room = (few_bytes p u is h).1;

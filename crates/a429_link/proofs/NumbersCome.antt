@@ -9,7 +9,6 @@ use Rattle.a429_ldu.specs.declared.forms.Form.{Form}
 use Rattle.a429_ldu.specs.declared.forms.Form.TheVariants as form
 use Rattle.a429_ldu.specs.Form.{form_of}
 use Rattle.a429_ldu.specs.Ldu.{LduValue, IsLdu, count_of, is_final, ldu_of}
-use Rattle.a429_ldu.proofs.CarriedFacts.{carried_of}
 use Rattle.a429_ldu.proofs.LduFacts.{unit_agrees}
 use Rattle.a429_ldu.specs.Carried.{bytes_carried, bytes_in}
 use Rattle.a429_ldu.specs.CheckWord.{agrees}
@@ -325,7 +324,7 @@ good_end p is last count (InBlock b) flags check h whole =
     λ n.
     let unit = ldu_of b.gfi flags check b.words in
     let ldu : IsLdu p unit = whole unit (n, refl) in
-    let carried = carried_of p is b.words ldu.bytes ldu.carries in
+    let carried = ldu.carries in
     let agreed : agrees p.check ldu.bytes check ≡ true = subst (λ bs. agrees p.check bs check ≡ true) (ap (λ o. unwrap_or o []) carried) (unit_agrees p unit is ldu) in
     good_where p last count b check ldu.bytes n carried ∙ and_from _ _ agreed h
 good_end p is last count _ flags check h whole = tt

@@ -101,11 +101,7 @@ is_ldu flags l = record {
   check = lit≤ tt;
   length = (lit≤ tt, lit≤ tt);
   bytes = 0x41 ∷ [];
-  carries = record {
-    semis = (1 ∷ 4 ∷ []) ∷ [];
-    words = (record { bus = refl; range = (lit≤ tt, lit≤ tt, (omega arith, (omega arith, tt))); fields = refl; label = refl; parity = refl; word = omega arith }, tt);
-    carries = record { some = lit≤ tt; semi_octets = refl };
-  };
+  carries = refl;
   checked = λ e. refl;
 }
 

@@ -6,7 +6,7 @@ use Rattle.a429_ldu.specs.CheckWord.{check_of}
 use Rattle.a429_ldu.specs.Ldu.{HasLength, IsFirstLduFault, IsLdu, LduValue, ldu_of}
 use Rattle.a429_ldu.specs.declared.fault.LduFault.{LduFault}
 use Rattle.a429_ldu.specs.declared.fault.LduFault.TheVariants.{Count, NotBytes, CheckWrong, OutOfMemory}
-use Rattle.a429_ldu.proofs.CarriedFacts.{carries_of, carried_of, one_list}
+use Rattle.a429_ldu.proofs.CarriedFacts.{carries_of, one_list}
 use Rattle.a429_search.specs.declared.pieces.EndWord.{EndWord}
 use Rattle.a429_search.specs.declared.pieces.GroupPieces.{GroupPieces}
 use Rattle.a429_search.specs.Order.{HasEach, lists_of}
@@ -94,7 +94,7 @@ data_of_unit p is pieces u m = record {
   each = m.each;
   fits = record {
     bytes = m.unit.bytes;
-    carried = carried_of p is u.words m.unit.bytes m.unit.carries;
+    carried = m.unit.carries;
     check = subst (λ (o : Option ℕ). IfSome o (λ k. check_of p.check m.unit.bytes ≡ k)) (sym (same_wanted p pieces.end p.check.compare refl)) (wanted_check p pieces.end u.check u.flags (check_of p.check m.unit.bytes) p.check.compare refl m.unit.checked m.end);
   };
 }

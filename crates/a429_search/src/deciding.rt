@@ -2,9 +2,9 @@
 //! attempts that no link data unit has both of.
 
 ghost use Rattle.std.specs.Prelude.{◌≡◌, ◌<◌, ℕ, Ok, None, IfOk, IfSome, length};
-ghost use Rattle.a429_cert.specs.Explained.{items_of, IsExplained, AreInEveryRun};
+ghost use Rattle.a429_cert.specs.Explained.{items_of, IsExplained, AreInSomeRun, AreInEveryRun};
 ghost use Rattle.a429_explain.specs.Explanation.{HasNoFault, HasLeastVersion};
-ghost use Rattle.a429_explain.specs.Verdict.{IsSoundVerdict, IsAccepted, IsOfLeastVersion, IsDoubted, HasNoForm, IsImpossibility, IsExplanation};
+ghost use Rattle.a429_explain.specs.Verdict.{IsSoundVerdict, IsOfSomeRun, IsAccepted, IsOfLeastVersion, IsDoubted, HasNoForm, IsImpossibility, IsExplanation};
 ghost use Rattle.a429_explain.specs.Walk.{AreAllowedUpTo};
 ghost use Rattle.a429_explain.specs.WithoutLoss.{IsWithoutLoss};
 ghost use Rattle.a429_search.specs.Contradiction.{HasNoContradiction, IsFirstContradiction, HasNoRun};
@@ -27,6 +27,7 @@ use std::alloc::Global;
 /// where attempts to send one link data unit are found to have words that no unit has; else the doubt of `check` stays.
 pub fn decide(alloc: Global, profile: &Profile, entries: &[Entry]) -> Result<Verdict, OutOfMemory>
     ensures explained { IfOk result (λ v. IsSoundVerdict profile.now (items_of entries.now) v) }
+    ensures some_run { IfOk result (λ v. IsOfSomeRun profile.now (items_of entries.now) v) }
     ensures accepted { IfOk result (λ v. IsAccepted profile.now (items_of entries.now) v) }
     ensures version { IfOk result (λ v. IsOfLeastVersion profile.now (items_of entries.now) v) }
     ensures impossible { IfOk result (λ v. IsImpossibleBy profile.now (items_of entries.now) v) }
@@ -122,6 +123,7 @@ fn found(
     entries: &[Entry],
 ) -> Result<Option<Explanation>, OutOfMemory>
     ensures explained { IfOk result (λ found. IfSome found (λ e. IsExplained profile.now e.certificate (items_of entries.now) e.files)) }
+    ensures some_run { IfOk result (λ found. IfSome found (λ e. AreInSomeRun profile.now (items_of entries.now) e.files)) }
     ensures every { IfOk result (λ found. IfSome found (λ e. AreInEveryRun profile.now (items_of entries.now) e.files)) }
     ensures accepted { IfOk result (λ found. IfSome found (λ e. HasNoFault profile.now e.certificate (items_of entries.now))) }
     ensures version { IfOk result (λ found. IfSome found (λ e. HasLeastVersion profile.now e.certificate (items_of entries.now))) }

@@ -2,7 +2,6 @@
 
 ghost use Rattle.std.specs.Prelude.{◌≡◌};
 
-mod as_csv;
 mod binary;
 mod entries;
 mod lines;

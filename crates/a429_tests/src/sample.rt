@@ -1,11 +1,9 @@
 //! What the tests share: the sample profile, changes of texts, the transfer of a file of the one byte 41, and readers and
 //! writers that fail.
 
-mod chance;
 mod changes;
 mod fakes;
 
-pub use crate::sample::chance::Chance;
 pub use crate::sample::changes::{joined, with};
 pub use crate::sample::fakes::{Endless, Narrow, Shaky};
 

@@ -94,7 +94,11 @@ returns-in-Ok-all_used-clause-some_run c =
 
 pub returns-in-Ok-all_used-clause-every_run : goal.returns-in-Ok-all_used-clause-every_run
 returns-in-Ok-all_used-clause-every_run c =
-    in_every_run c.args.profile.now (search rules) c.args.certificate.now (items_of c.args.entries.now) c.new.result (returns-in-Ok-all_used-clause-ok c)
+    (in_every_run c.args.profile.now (search rules) c.args.certificate.now (items_of c.args.entries.now) c.new.result (returns-in-Ok-all_used-clause-ok c)).delivered
+
+pub returns-in-Ok-all_used-clause-settled : goal.returns-in-Ok-all_used-clause-settled
+returns-in-Ok-all_used-clause-settled c =
+    (in_every_run c.args.profile.now (search rules) c.args.certificate.now (items_of c.args.entries.now) c.new.result (returns-in-Ok-all_used-clause-ok c)).settled
 
 pub loop-line-smaller : goal.loop-line-smaller
 loop-line-smaller c = c.in-Some.ensures.shorter refl

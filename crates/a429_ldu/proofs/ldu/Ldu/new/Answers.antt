@@ -27,7 +27,7 @@ returns-in-Ok-clause-sound c =
     let bytes = c.in-Some.bytes.items in
     let right = on_profile c.check_tables.result.now c.args.profile.now.check bytes c.deref.result.now c.args.check true c.check_tables.ensures c.deref.ensures.0 (sym c.agrees.ensures ∙ c.if-not-agrees.false) in
     made c.args.profile.now c.args.gfi c.args.flags c.args.check c.args.words.now c.in-Ok.words.items bytes c.requires.gfi c.requires.flags (omega arith)
-    (omega (arith, some), omega arith) c.in-Ok.ensures.items c.in-Some.ensures.some right
+    (omega (arith, some), omega arith) c.in-Ok.ensures.items (sym c.in-Some.ensures.computed) right
 
 pub returns-in-Err-clause-memory : goal.returns-in-Err-clause-memory
 returns-in-Err-clause-memory c _ =
@@ -35,7 +35,7 @@ returns-in-Err-clause-memory c _ =
     let bytes = c.in-Some.bytes.items in
     let right = on_profile c.check_tables.result.now c.args.profile.now.check bytes c.deref.result.now c.args.check true c.check_tables.ensures c.deref.ensures.0 (sym c.agrees.ensures ∙ c.if-not-agrees.false) in
     made c.args.profile.now c.args.gfi c.args.flags c.args.check c.args.words.now c.args.words.now bytes c.requires.gfi c.requires.flags (omega arith)
-    (omega (arith, some), omega arith) refl c.in-Some.ensures.some right
+    (omega (arith, some), omega arith) refl (sym c.in-Some.ensures.computed) right
 
 pub returns-then-is_empty-clause-memory : goal.returns-then-is_empty-clause-memory
 returns-then-is_empty-clause-memory c = search rules
