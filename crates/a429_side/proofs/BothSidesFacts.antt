@@ -78,8 +78,8 @@ both_explained p q es files others m f s =
       records = both.records;
       first = λ d same.
           let seen : trace (firsts d.steps) ≡ items_of (side_of p.codes (on bus.A) es) = (views p q d separate).first ∙ ap (view q.codes) same ∙ sym a in
-          sym (in_every_run p f.sound f.certificate _ files f.explained d.first (firsts d.steps) d.is_first.byte d.is_first.run seen).0;
+          sym ((in_every_run p f.sound f.certificate _ files f.explained).delivered d.first (firsts d.steps) d.is_first.byte d.is_first.run seen).0;
       second = λ d same.
           let seen : trace (seconds d.steps) ≡ items_of (side_of q.codes (on bus.B) es) = (views p q d separate).second ∙ ap (λ (l : List Seen). view p.codes (all_turned l)) same ∙ sym b in
-          sym (in_every_run q s.sound s.certificate _ others s.explained d.second (seconds d.steps) d.is_second.byte d.is_second.run seen).0;
+          sym ((in_every_run q s.sound s.certificate _ others s.explained).delivered d.second (seconds d.steps) d.is_second.byte d.is_second.run seen).0;
     }

@@ -326,5 +326,5 @@ crossings_explained p entries span e all =
       later = [];
       records = sym x.used ∙ sym (append-nil (trace e.steps));
     } in
-    let same = in_every_run p e.sound e.certificate (items_of entries) e.files e.yes e.first e.steps x.byte run x.used in
+    let same = (in_every_run p e.sound e.certificate (items_of entries) e.files e.yes).delivered e.first e.steps x.byte run x.used in
     crossings_delivered p entries span over all ∙ ap numbers (sym same.0)
