@@ -51,6 +51,21 @@ def form_on(profile, bus, word, destination):
     return {sot: ("sot", upper, high, low), eot: ("eot", upper, high << 8 | low)}.get(kind, "no form")
 
 
+def gap_of(profile, bus, word):
+    """The first number in a word of neither direction that no form has there, as `trace` says it."""
+    kind, upper, high, low = word >> 28 & 7, word >> 24 & 15, word >> 16 & 255, word >> 8 & 255
+    full, partial, protocol, sot, eot = profile.types[:5]
+    rts, cts = profile.codes[:2]
+    if kind not in (full, partial, protocol, sot, eot):
+        return f"type {kind}"
+    if kind == partial and upper in profile.partial:
+        return "semi-octets"
+    if kind == partial or upper not in (rts, cts):
+        return f"code {upper}"
+    is_asked = upper == {"A": rts, "B": cts}[bus]
+    return f"destination {high}" if is_asked and high != profile.destination else f"count {low}"
+
+
 def text_of(profile, message):
     """A message as `forms` says it."""
     name, *numbers = message
@@ -78,7 +93,7 @@ def what_is(profile, bus, word):
     other = other_message_of(profile, bus, word)
     if message == "no form" and isinstance(other, tuple):
         return f"other {text_of(profile, other)}"
-    return message
+    return f"no form, {gap_of(profile, bus, word)}" if message == "no form" else message
 
 
 def is_final(profile, flags):

@@ -64,7 +64,7 @@ function a429.dissector(packet, info, tree)
     local shown = subtree:add(fields.form, at_form, form)
     if form:find("^free parity") then
         shown:add_proto_expert_info(experts.parity)
-    elseif form == "no form" then
+    elseif form:find("^no form") then
         shown:add_proto_expert_info(experts.no_form)
     end
     if sink then

@@ -12,7 +12,6 @@ use Rattle.a429_ldu.specs.declared.forms.Form.{Form}
 use Rattle.a429_ldu.specs.declared.freedom.Freedom.{Freedom}
 use Rattle.a429_ldu.specs.declared.sight.Sight.{Sight}
 use Rattle.a429_ldu.specs.declared.sight.Sight.TheVariants as sight
-use Rattle.a429_ldu.specs.Across.{form_across}
 use Rattle.a429_ldu.specs.Form.{IsFree, form_of, is_free}
 use Rattle.a429_ldu.specs.Freedom.{freedom_of}
 use Rattle.a429_ldu.specs.Sight.{form_in, sight_in, sight_of}
@@ -26,7 +25,7 @@ use Rattle.a429_cert.specs.Explained.{seen_of}
 use Rattle.a429_view.specs.declared.trace.Trace.{Trace}
 use Rattle.a429_record.specs.declared.entry.Entry.{Entry}
 use Rattle.a429_view.specs.Block.{block_end, block_start}
-use Rattle.a429_view.specs.Forms.{form_or_other_text, form_text, freedom_text, reason_or_text}
+use Rattle.a429_view.specs.Forms.{form_or_other_text, form_text, freedom_text, other_text, reason_or_text}
 use Rattle.a429_view.specs.Trace.{GoesOn, after_text, crossings_by, doing_text, else_text, free_text, has_line, line_head, line_of}
 
 -- ---- what a word is
@@ -82,7 +81,7 @@ where_false true x e = absurd (cc e)
 
 -- a line by the reason why its word is free and by its form
 abbrev line_by : Contents → ℕ → Implied → Entry → Option Freedom → Option Form → List ℕ
-line_by p n k e why x = line_head n e ++ reason_or_text why (form_or_other_text p.codes x (form_across p.codes e.bus e.word)) ++ after_text p k e.bus e.word why x ++ codes "\n"
+line_by p n k e why x = line_head n e ++ reason_or_text why (form_or_other_text p.codes x (other_text p.codes e.bus e.word)) ++ after_text p k e.bus e.word why x ++ codes "\n"
 
 pub no_line : (p : Contents) (n : ℕ) (k : Implied) (e : Entry) → has_line p.codes e ≡ false → line_of p n k e ≡ []
 no_line p n k e h = where_false (has_line p.codes e) (line_by p n k e (freedom_of p.codes e.bus e.word) (form_of p.codes e.bus e.word)) h

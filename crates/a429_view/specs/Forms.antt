@@ -9,9 +9,11 @@ use Rattle.a429_ldu.specs.declared.forms.Form.TheVariants.{Rts, Cts, Ack, Nak, S
 use Rattle.a429_ldu.specs.declared.freedom.Freedom.{Freedom}
 use Rattle.a429_ldu.specs.declared.freedom.Freedom.TheVariants.{BadParity, OtherLabel, IgnoredType, IgnoredCode}
 use Rattle.a429_ldu.specs.Across.{form_across}
-use Rattle.a429_ldu.specs.Form.{form_of}
+use Rattle.a429_ldu.specs.Form.{fields_of, form_of}
 use Rattle.a429_ldu.specs.Freedom.{freedom_of}
 use Rattle.a429_ldu.specs.Ldu.{is_final}
+use Rattle.a429_view.specs.declared.gap.Gap.{Gap}
+use Rattle.a429_view.specs.Gap.{gap_of, gap_text}
 
 -- why the transfer passes over it
 abbrev pub freedom_text : Freedom → List ℕ
@@ -39,21 +41,25 @@ form_text c (Sot gfi file ldu) = codes "sot " ++ ldu_text file ldu ++ codes " gf
 form_text c (Part semis) = codes "data " ++ map (digit_glyph true) semis
 form_text c (Eot flags check) = codes "eot flags " ++ decimal flags ++ codes " check " ++ numeral 16 4 check ++ final_text (is_final c flags)
 
--- a word that is not free and has no form: by its form in the other direction, where it has one there
-abbrev pub other_text : Codes → Option Form → List ℕ
-other_text c (Some x) = codes "other " ++ form_text c x
-other_text c None = codes "no form"
+-- a word that is not free and has no form: by its form in the other direction, where it has one there, or else by the first number
+-- that no form has
+abbrev pub across_text : Codes → Option Form → Gap → List ℕ
+across_text c (Some x) gap = codes "other " ++ form_text c x
+across_text c None gap = codes "no form, " ++ gap_text gap
 
--- a word that is not free, by its form, or by that in the other direction
-abbrev pub form_or_other_text : Codes → Option Form → Option Form → List ℕ
+abbrev pub other_text : Codes → Bus → ℕ → List ℕ
+other_text c b w = across_text c (form_across c b w) (gap_of c b (fields_of w))
+
+-- a word that is not free, by its form, or by this text, where it has none
+abbrev pub form_or_other_text : Codes → Option Form → List ℕ → List ℕ
 form_or_other_text c (Some x) other = form_text c x
-form_or_other_text c None other = other_text c other
+form_or_other_text c None other = other
 
 -- a word by the reason why it is free, where there is one
 abbrev pub reason_or_text : Option Freedom → List ℕ → List ℕ
 reason_or_text (Some why) text = freedom_text why
 reason_or_text None text = text
 
--- what a word is on its bus: why it is free, its form, its form in the other direction, or that it has none
+-- what a word is on its bus: why it is free, its form, its form in the other direction, or which number no form has
 abbrev pub what_text : Codes → Bus → ℕ → List ℕ
-what_text c b w = reason_or_text (freedom_of c b w) (form_or_other_text c (form_of c b w) (form_across c b w))
+what_text c b w = reason_or_text (freedom_of c b w) (form_or_other_text c (form_of c b w) (other_text c b w))

@@ -4,6 +4,7 @@ pub mod Show
 pub mod Verdict
 pub mod Units
 pub mod UnitSteps
+pub mod Gap
 pub mod Forms
 pub mod Block
 pub mod Line

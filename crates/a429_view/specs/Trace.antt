@@ -9,7 +9,6 @@ use Rattle.a429_profile.specs.Profile.{Contents}
 use Rattle.a429_ldu.specs.declared.forms.Form.{Form}
 use Rattle.a429_ldu.specs.declared.freedom.Freedom.{Freedom}
 use Rattle.a429_ldu.specs.declared.freedom.Freedom.TheVariants.{BadParity}
-use Rattle.a429_ldu.specs.Across.{form_across}
 use Rattle.a429_ldu.specs.Form.{address_of, form_of}
 use Rattle.a429_ldu.specs.Freedom.{freedom_of}
 use Rattle.a429_ldu.specs.Sight.{sight_of}
@@ -28,7 +27,7 @@ use Rattle.a429_cert.specs.Explained.{items_of, seen_of}
 use Rattle.a429_view.specs.declared.trace.Trace.{Trace}
 use Rattle.a429_view.specs.declared.trace.TraceStop.{TraceStop}
 use Rattle.a429_view.specs.declared.trace.TraceStop.TheVariants as stop
-use Rattle.a429_view.specs.Forms.{form_text, freedom_text, form_or_other_text, ldu_text, what_text}
+use Rattle.a429_view.specs.Forms.{form_text, freedom_text, form_or_other_text, ldu_text, other_text, what_text}
 
 -- ---- what the sink does
 
@@ -119,14 +118,13 @@ abbrev pub lines_of : Contents → ℕ → Implied → List Entry → List ℕ
 lines_of p n k [] = []
 lines_of p n k (e ∷ es) = line_of p n k e ++ lines_of p (suc n) (implies p (seen_of e) k) es
 
--- how the line of a word ends that is not free, has this form or none, in the other direction this one or none, and is not allowed after
--- words that imply this
-abbrev pub refused_text : Codes → Option Form → Option Form → Implied → List ℕ
+-- how the line of a word ends that is not free, has this form, or else is told by this text, and is not allowed after words that imply this
+abbrev pub refused_text : Codes → Option Form → List ℕ → Implied → List ℕ
 refused_text c x other k = form_or_other_text c x other ++ codes " | refused, allowed: " ++ kinds_text (kinds_allowed (observer_of k)) ++ codes "\n"
 
 -- entry n, whose word is such
 abbrev pub refused_line : Contents → ℕ → Implied → Entry → List ℕ
-refused_line p n k e = line_head n e ++ refused_text p.codes (form_of p.codes e.bus e.word) (form_across p.codes e.bus e.word) k
+refused_line p n k e = line_head n e ++ refused_text p.codes (form_of p.codes e.bus e.word) (other_text p.codes e.bus e.word) k
 
 -- ---- the trace of entries
 

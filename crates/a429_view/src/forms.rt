@@ -4,11 +4,11 @@ ghost use Rattle.std.specs.Prelude.{◌≡◌, ◌++◌, ◌+◌, ◌≤◌, cod
 ghost use Rattle.std.specs.Fmt.{decimal, digit_glyph};
 ghost use Rattle.a429_word.specs.Digits.{numeral};
 ghost use Rattle.a429_word.specs.Sheet.{Says};
-ghost use Rattle.a429_ldu.specs.Across.{form_across};
 ghost use Rattle.a429_ldu.specs.Form.{form_of};
 ghost use Rattle.a429_view.specs.Forms.{freedom_text, final_text, form_text, ldu_text, form_or_other_text, other_text, what_text};
 ghost use Rattle.a429_view.specs.Line.{Adds, Fits};
 
+use crate::gap::{add_gap, gap_of, numbers_of};
 use crate::line::Line;
 use a429_ldu::{Form, Freedom, Semis, form_across, why_free};
 use a429_link::{form_of, is_final};
@@ -18,7 +18,7 @@ use a429_word::{Bus, Sheet, Word, hex_digit};
 use std::io::Write;
 
 /// Puts what a word is to the file transfer of a profile: its form with its numbers, why it is free, which form it has in the other
-/// direction, or that it has none in either (ARINC 429 Part 3; the layout is the profile's).
+/// direction, or which number no form has (ARINC 429 Part 3; the layout is the profile's).
 pub fn put_what<W: Write>(sheet: &mut Sheet<'_, W>, profile: &Profile, entry: &Entry)
     ensures { Says W.contents sheet.old sheet.new (what_text profile.now.codes entry.now.bus entry.now.word) }
 {
@@ -30,7 +30,7 @@ pub fn put_what<W: Write>(sheet: &mut Sheet<'_, W>, profile: &Profile, entry: &E
 
 // The form of a word that is not free, or that in the other direction, where it has one.
 fn put_form_if_any<W: Write>(sheet: &mut Sheet<'_, W>, profile: &Profile, entry: &Entry)
-    ensures { Says W.contents sheet.old sheet.new (form_or_other_text profile.now.codes (form_of profile.now.codes entry.now.bus entry.now.word) (form_across profile.now.codes entry.now.bus entry.now.word)) }
+    ensures { Says W.contents sheet.old sheet.new (form_or_other_text profile.now.codes (form_of profile.now.codes entry.now.bus entry.now.word) (other_text profile.now.codes entry.now.bus entry.now.word)) }
 {
     let mut line = Line::new();
     let form = form_of(profile, entry.bus, entry.word);
@@ -38,7 +38,7 @@ fn put_form_if_any<W: Write>(sheet: &mut Sheet<'_, W>, profile: &Profile, entry:
     sheet.put(line.as_slice());
 }
 
-/// Adds the form of a word that is not free; where it has none, that in the other direction, or that it has none there either.
+/// Adds the form of a word that is not free; where it has none, that in the other direction, or which number no form has.
 pub(crate) fn add_form_or_other(
     line: &mut Line,
     profile: &Profile,
@@ -47,25 +47,28 @@ pub(crate) fn add_form_or_other(
     form: Option<Form>,
 )
     requires { Fits line.old 37 }
-    ensures { Adds line.old line.new 36 (form_or_other_text profile.now.codes form (form_across profile.now.codes bus word)) }
+    ensures { Adds line.old line.new 36 (form_or_other_text profile.now.codes form (other_text profile.now.codes bus word)) }
 {
     match form {
         Some(form) => add_form(line, profile, form),
-        None => add_other(line, profile, form_across(profile, bus, word)),
+        None => add_other(line, profile, bus, word),
     }
 }
 
-// Adds the form that a word has in the other direction, or that it has none.
-fn add_other(line: &mut Line, profile: &Profile, form: Option<Form>)
+// Adds the form that a word without one has in the other direction, or which number no form has.
+fn add_other(line: &mut Line, profile: &Profile, bus: Bus, word: Word)
     requires { Fits line.old 37 }
-    ensures { Adds line.old line.new 36 (other_text profile.now.codes form) }
+    ensures { Adds line.old line.new 36 (other_text profile.now.codes bus word) }
 {
-    match form {
+    match form_across(profile, bus, word) {
         Some(form) => {
             line.put(b"other ");
             add_form(line, profile, form)
         }
-        None => line.put(b"no form"),
+        None => {
+            line.put(b"no form, ");
+            add_gap(line, gap_of(profile.codes(), bus, numbers_of(word)))
+        }
     }
 }
 

@@ -4,6 +4,7 @@
 
 mod blocks;
 mod forms;
+mod gap;
 mod history;
 mod labels;
 pub mod laws;

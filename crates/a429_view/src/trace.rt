@@ -2,7 +2,7 @@
 
 ghost use Rattle.std.specs.Prelude.{◌≡◌, ◌++◌, [], IfErr, IfOk, OnOk, Some};
 ghost use Rattle.a429_word.specs.Sheet.{Says};
-ghost use Rattle.a429_ldu.specs.Across.{form_across};
+ghost use Rattle.a429_view.specs.Forms.{other_text};
 ghost use Rattle.a429_ldu.specs.Sight.{form_in};
 ghost use Rattle.a429_link.specs.Observer.{AllowsForm};
 ghost use Rattle.a429_link.specs.Implied.{crossings_of, does, implies_form, observer_of};
@@ -131,7 +131,7 @@ impl Trace {
         sight: Sight,
     ) -> TraceStop
         ensures stop { result ≡ TraceStop.Refused sight }
-        ensures line { Says W.contents sheet.old sheet.new (line_head self.now.entries entry.now ++ refused_text profile.now.codes (form_in sight) (form_across profile.now.codes entry.now.bus entry.now.word) self.now.sink) }
+        ensures line { Says W.contents sheet.old sheet.new (line_head self.now.entries entry.now ++ refused_text profile.now.codes (form_in sight) (other_text profile.now.codes entry.now.bus entry.now.word) self.now.sink) }
     {
         let next = self.sink.next();
         put_refused(sheet, profile, &self.entries, entry, sight.form(), next);

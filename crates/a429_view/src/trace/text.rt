@@ -3,11 +3,10 @@
 ghost use Rattle.std.specs.Prelude.{◌≡◌, ◌++◌, codes, None, Some};
 ghost use Rattle.std.specs.Fmt.{decimal};
 ghost use Rattle.a429_word.specs.Sheet.{Says};
-ghost use Rattle.a429_ldu.specs.Across.{form_across};
 ghost use Rattle.a429_ldu.specs.Freedom.{freedom_of};
 ghost use Rattle.a429_link.specs.Allowed.{kinds_of_next};
 ghost use Rattle.a429_record.specs.Writing.{entry_text};
-ghost use Rattle.a429_view.specs.Forms.{form_or_other_text, form_text};
+ghost use Rattle.a429_view.specs.Forms.{form_or_other_text, form_text, other_text};
 ghost use Rattle.a429_view.specs.Line.{Adds, Fits};
 ghost use Rattle.a429_view.specs.Trace.{crossing_text, doing_text, else_form_text, else_text, free_text, line_head, kinds_text, turned_over, why_text, words_text};
 
@@ -72,7 +71,7 @@ pub(crate) fn put_refused<W: Write>(
     form: Option<Form>,
     next: Next,
 )
-    ensures { Says W.contents sheet.old sheet.new (line_head count.now entry.now ++ (form_or_other_text profile.now.codes form (form_across profile.now.codes entry.now.bus entry.now.word) ++ codes " | refused, allowed: " ++ kinds_text (kinds_of_next next) ++ codes "\n")) }
+    ensures { Says W.contents sheet.old sheet.new (line_head count.now entry.now ++ (form_or_other_text profile.now.codes form (other_text profile.now.codes entry.now.bus entry.now.word) ++ codes " | refused, allowed: " ++ kinds_text (kinds_of_next next) ++ codes "\n")) }
 {
     let mut line = Line::new();
     add_head(&mut line, count, entry);

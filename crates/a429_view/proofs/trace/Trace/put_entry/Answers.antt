@@ -1,7 +1,7 @@
 use Rattle.std.proofs.Common.{◌+◌, ◌-◌, ◌^◌, min, ◌++◌, Option, Some, None, sym, ap, ◌∙◌, subst}
 use Rattle.a429_word.specs.Sheet.{Says}
 use Rattle.a429_word.proofs.SheetFacts.{says_nothing}
-use Rattle.a429_ldu.specs.Across.{form_across}
+use Rattle.a429_view.specs.Forms.{other_text}
 use Rattle.a429_ldu.specs.declared.forms.Form.{Form}
 use Rattle.a429_ldu.specs.declared.sight.Sight.TheVariants as sight
 use Rattle.a429_view.specs.declared.trace.Trace.{Trace}
@@ -30,7 +30,7 @@ returns-then-not-allows-clause-stop_line g c =
     let e = c.args.entry.now in
     let known = knows p.codes e.bus e.word (sight.Form c.in-Form.form) (sym c.in-Form.is ∙ c.form.ensures.computed) in
     rw c.refuse.ensures.stop
-    (subst (λ (x : Option Form). Says g.W.Write.contents c.args.sheet.now c.refuse.new.sheet (line_head c.args.self.now.entries e ++ refused_text p.codes x (form_across p.codes e.bus e.word) c.args.self.now.sink)) (sym known.2) c.refuse.ensures.line)
+    (subst (λ (x : Option Form). Says g.W.Write.contents c.args.sheet.now c.refuse.new.sheet (line_head c.args.self.now.entries e ++ refused_text p.codes x (other_text p.codes e.bus e.word) c.args.self.now.sink)) (sym known.2) c.refuse.ensures.line)
 
 pub returns-in-NoForm-clause-stop : goal.returns-in-NoForm-clause-stop
 returns-in-NoForm-clause-stop g c =
@@ -47,7 +47,7 @@ returns-in-NoForm-clause-stop_line g c =
     let e = c.args.entry.now in
     let known = knows p.codes e.bus e.word sight.NoForm (sym c.in-NoForm.is ∙ c.form.ensures.computed) in
     rw c.refuse-in-NoForm.ensures.stop
-    (subst (λ (x : Option Form). Says g.W.Write.contents c.args.sheet.now c.refuse-in-NoForm.new.sheet (line_head c.args.self.now.entries e ++ refused_text p.codes x (form_across p.codes e.bus e.word) c.args.self.now.sink)) (sym known.2) c.refuse-in-NoForm.ensures.line)
+    (subst (λ (x : Option Form). Says g.W.Write.contents c.args.sheet.now c.refuse-in-NoForm.new.sheet (line_head c.args.self.now.entries e ++ refused_text p.codes x (other_text p.codes e.bus e.word) c.args.self.now.sink)) (sym known.2) c.refuse-in-NoForm.ensures.line)
 
 pub returns-clause-goes_on : goal.returns-clause-goes_on
 returns-clause-goes_on g c =
