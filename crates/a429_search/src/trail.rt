@@ -1,6 +1,6 @@
 //! The groups that hypotheses have closed.
 
-ghost use Rattle.std.specs.Prelude.{◌≡◌, IfOk, IfSome, length};
+ghost use Rattle.std.specs.Prelude.{◌≡◌, IfOk, IfSome, OnOk, length};
 ghost use Rattle.a429_ldu.specs.Ldu.{IsLdu};
 ghost use Rattle.a429_explain.specs.Plan.{ArePlans};
 
@@ -158,13 +158,7 @@ impl<'a> Trail<'a> {
             let Some(closed) = self.at(next) else {
                 break;
             };
-            if let Some(unit) = copied(self.alloc, profile, &closed.unit)? {
-                plans.push_front(Plan {
-                    at: closed.at,
-                    give_ups: closed.give_ups,
-                    unit,
-                })?;
-            }
+            put_plan(self.alloc, profile, closed, &mut plans)?;
             if let Some(entry) = closed.heard {
                 heard.push(entry)?;
             }
@@ -211,6 +205,26 @@ pub(crate) fn group_of<'a>(hypothesis: &Hypothesis, groups: &'a [Group]) -> Opti
         Some(place) => groups.get(place),
         None => None,
     }
+}
+
+// Puts the plan of a closed group before those of the groups after it.
+fn put_plan(
+    alloc: Global,
+    profile: &Profile,
+    closed: &Closed,
+    plans: &mut VecDeque<Plan>,
+) -> Result<(), AllocError>
+    requires { ArePlans profile.now plans.old.items }
+    ensures { OnOk result (ArePlans profile.now plans.new.items) }
+{
+    if let Some(unit) = copied(alloc, profile, &closed.unit)? {
+        plans.push_front(Plan {
+            at: closed.at,
+            give_ups: closed.give_ups,
+            unit,
+        })?;
+    }
+    Ok(())
 }
 
 // The same link data unit once more: it is one of the profile.
