@@ -15,16 +15,17 @@ use Rattle.a429_link.specs.Contradiction.{IsOtherNext, IsWrongNext, so_far}
 use Rattle.a429_link.specs.Observer.{AllowsNext, at_first, observed}
 use Rattle.a429_link.specs.Run.{BeginsARun}
 use Rattle.a429_link.specs.WholeBlock.{ComesNext, EndsBad, IsHalfNext}
-use Rattle.a429_cert.specs.Explained.{IsExplained}
+use Rattle.a429_record.specs.declared.entry.Entry.{Entry}
+use Rattle.a429_cert.specs.Explained.{IsExplained, items_of}
 use Rattle.a429_cert.proofs.ExplainedFacts.{in_some_run}
 use Rattle.a429_explain.specs.declared.verdict.Reason.{Reason}
 use Rattle.a429_explain.specs.declared.verdict.Reason.TheVariants.{NoForm, NotGranted, WrongAnswer, BadBlock, WrongNumber, OtherBlock, NoRun}
 use Rattle.a429_explain.specs.declared.verdict.Verdict.TheVariants.{Impossible}
 use Rattle.a429_explain.specs.Walk.{AreAllowedUpTo, FitsAt, FitsSight}
 use Rattle.a429_search.specs.declared.contradiction.Contradiction.{Contradiction}
-use Rattle.a429_search.specs.Contradiction.{ContradictsAt, HasNoContradiction, HasNoneBefore, HasNoRun, IsFirstContradiction}
+use Rattle.a429_search.specs.Contradiction.{ContradictsAt, HasNoContradiction, HasNoneBefore, HasNoRun}
 use Rattle.a429_search.proofs.ContradictionFacts.{none_before}
-use Rattle.a429_search.specs.Deciding.{HasNoReason, IsImpossibleBy, IsReasonAt}
+use Rattle.a429_search.specs.Deciding.{HasNoReason, IsFirstReasonAt, IsImpossibleBy, IsNoRun, IsReasonAt}
 
 -- ---- the first words of a recording
 
@@ -113,7 +114,7 @@ at_least p items n may none k r h = elim (cases_order k n) [
 ]
 
 -- no word of the recording is refused, and none contradicts
-pub no_reason_at_all : (p : Contents) (items : List Seen) → HasNoReason p items → (k : ℕ) (r : Reason) → ¬ IsReasonAt p items k r
+pub no_reason_at_all : (p : Contents) (items : List Seen) → HasNoReason p items (length items) → (k : ℕ) (r : Reason) → ¬ IsReasonAt p items k r
 no_reason_at_all p items (may, none) k r h = no_reason p items (length items) may none k r (reason_within p items k r h) h
 
 -- ---- in the first n words
@@ -138,25 +139,51 @@ pub none_first : (p : Contents) (items : List Seen) (n : ℕ) → n ≤ length i
 none_first p items n m none k l r h =
     none k (omega (arith, take_length n items m)) r (subst (λ (T : Type 0). T) (sym (in_first p items n k r l)) h)
 
--- a contradiction in the first n words is one of the recording
-pub record IsContradiction (p : Contents) (items : List Seen) (n : ℕ) (c : Contradiction) : Type 0 where
+-- a word of the first n at which no run goes on
+pub record IsFound (p : Contents) (items : List Seen) (n : ℕ) (c : Contradiction) : Type 0 where
   pub inside : c.entry < length items
   pub within : c.entry < n
-  pub holds : ContradictsAt p items c.entry c.reason
+  pub how : (ContradictsAt p items c.entry c.reason × HasNoneBefore (ContradictsAt p items c.entry) c.reason) ⊎ ((c.reason ≡ NoRun) × HasNoContradiction p items (c.entry + 1))
   pub before : HasNoContradiction p items c.entry
-  pub ranked : HasNoneBefore (ContradictsAt p items c.entry) c.reason
   pub no_run : HasNoRun p items c.entry
 
-pub found_first : (p : Contents) (items : List Seen) (n : ℕ) (c : Contradiction) → n ≤ length items → IsFirstContradiction p (take n items) c → HasNoRun p (take n items) c.entry → IsContradiction p items n c
-found_first p items n c m first none =
-    let l : c.entry < n = omega (arith, first.inside, take_length n items m) in
+none_here : (p : Contents) (items : List Seen) (n k : ℕ) → k ≤ n → HasNoContradiction p (take n items) k → HasNoContradiction p items k
+none_here p items n k l none j m r h = none j m r (subst (λ (T : Type 0). T) (sym (in_first p items n j r (omega arith))) h)
+
+-- it is one of the recording
+pub found_first : (p : Contents) (items : List Seen) (n : ℕ) (c : Contradiction) → n ≤ length items → IsNoRun p (take n items) c → IsFound p items n c
+found_first p items n c m is =
+    let l : c.entry < n = omega (arith, is.inside, take_length n items m) in
+    let no_run : HasNoRun p items c.entry = λ run. is.no_run (subst (λ (xs : List Seen). BeginsARun p xs) (sym (take_first (c.entry + 1) n items (omega arith))) run) in
+    elim is.how [
+      | inl first ↦ record {
+        inside = omega arith;
+        within = l;
+        how = inl (subst (λ (T : Type 0). T) (in_first p items n c.entry c.reason l) first.holds, none_before (ContradictsAt p items c.entry) (ContradictsAt p (take n items) c.entry) (λ k h. subst (λ (T : Type 0). T) (sym (in_first p items n c.entry k l)) h) c.reason first.ranked);
+        before = none_here p items n c.entry (omega arith) first.before;
+        no_run = no_run;
+      }
+      | inr (none, before) ↦ record {
+        inside = omega arith;
+        within = l;
+        how = inr (none, none_here p items n (c.entry + 1) (omega arith) before);
+        before = λ k j. none_here p items n (c.entry + 1) (omega arith) before k (omega arith);
+        no_run = no_run;
+      }
+    ]
+
+pub same_length : (es : List Entry) → length (items_of es) ≡ length es
+same_length [] = refl
+same_length (e ∷ es) = ap suc (same_length es)
+
+-- one that is found before a contradiction
+pub no_run_before : (p : Contents) (items : List Seen) (n e : ℕ) → n ≤ length items → HasNoContradiction p items n → e < length (take n items) → HasNoRun p (take n items) e → IsNoRun p items (record { entry = e; reason = NoRun })
+no_run_before p items n e m none l no_run =
+    let within : e < n = omega (arith, l, take_length n items m) in
     record {
       inside = omega arith;
-      within = l;
-      holds = subst (λ (T : Type 0). T) (in_first p items n c.entry c.reason l) first.holds;
-      before = λ k j r h. first.before k j r (subst (λ (T : Type 0). T) (sym (in_first p items n k r (omega arith))) h);
-      ranked = none_before (ContradictsAt p items c.entry) (ContradictsAt p (take n items) c.entry) (λ k h. subst (λ (T : Type 0). T) (sym (in_first p items n c.entry k l)) h) c.reason first.ranked;
-      no_run = λ run. none (subst (λ (xs : List Seen). BeginsARun p xs) (sym (take_first (c.entry + 1) n items (omega arith))) run);
+      how = inr (refl, λ k j. none k (omega (arith, j, within)));
+      no_run = λ run. no_run (subst (λ (xs : List Seen). BeginsARun p xs) (sym (take_first (e + 1) n items (omega arith))) run);
     }
 
 pub less_allowed : (p : Contents) (items : List Seen) (n k : ℕ) → k ≤ n → AreAllowedUpTo p items n → AreAllowedUpTo p items k
@@ -215,8 +242,12 @@ first_of_refused c (Some i) Holds NotGranted h = tt
 first_of_refused c (Some i) Holds WrongAnswer h = tt
 first_of_refused c (Some i) Holds NoRun h = tt
 
-pub impossible_by : (p : Contents) (items : List Seen) (n : ℕ) (c : Contradiction) → IsContradiction p items n c → IsImpossibleBy p items (Impossible c.entry c.reason)
-impossible_by p items n c h = (h.inside, inl (inr h.holds, h.ranked), h.no_run)
+pub impossible_by : (p : Contents) (items : List Seen) (n : ℕ) (c : Contradiction) → AreAllowedUpTo p items n → IsFound p items n c → IsImpossibleBy p items (Impossible c.entry c.reason)
+impossible_by p items n c may h = (h.inside, how h.how, h.no_run)
+  where
+    how : (ContradictsAt p items c.entry c.reason × HasNoneBefore (ContradictsAt p items c.entry) c.reason) ⊎ ((c.reason ≡ NoRun) × HasNoContradiction p items (c.entry + 1)) → IsFirstReasonAt p items c.entry c.reason ⊎ ((c.reason ≡ NoRun) × HasNoReason p items (c.entry + 1))
+    how (inl (holds, ranked)) = inl (inr holds, ranked)
+    how (inr (is, none)) = inr (is, (less_allowed p items n (c.entry + 1) (omega (arith, h.within)) may, none))
 
-pub first_by : (p : Contents) (items : List Seen) (n : ℕ) (c : Contradiction) → AreAllowedUpTo p items n → IsContradiction p items n c → (k : ℕ) (r : Reason) → IsReasonAt p items k r → c.entry ≤ k
+pub first_by : (p : Contents) (items : List Seen) (n : ℕ) (c : Contradiction) → AreAllowedUpTo p items n → IsFound p items n c → (k : ℕ) (r : Reason) → IsReasonAt p items k r → c.entry ≤ k
 first_by p items n c may h = at_least p items c.entry (less_allowed p items n c.entry (omega (arith, h.within)) may) h.before

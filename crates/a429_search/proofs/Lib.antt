@@ -16,7 +16,10 @@ pub mod AttemptWordsFacts
 pub mod SoFarFacts
 pub mod ContradictionFacts
 pub mod DecidingFacts
-pub mod ApartFacts
 pub mod AgainstFacts
 pub mod RivalFacts
+pub mod StandingFacts
+pub mod RecordedFacts
+pub mod GroupFacts
 pub mod FrontierFacts
+pub mod SearchingFacts

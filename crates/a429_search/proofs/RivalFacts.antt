@@ -1,6 +1,6 @@
 -- An attempt that another attempt is held against.
-use Rattle.std.proofs.Common.{◌≡◌, ◌⊎◌, ℕ, zero, suc, ◌+◌, ◌<◌, Bool, true, false, cond, eqb, eqb-true, List, [], ◌∷◌, ◌++◌, length, take, Option, Some, None, slice_get, refl, sym, ap, ◌∙◌, subst, inl, inr, append_assoc, append-nil, arith}
-use Rattle.std.proofs.lemmas.Bool.{and_parts}
+use Rattle.std.proofs.Common.{◌≡◌, ◌⊎◌, ◌↔◌, not, IsTrue, ℕ, zero, suc, ◌+◌, ◌<◌, Bool, true, false, cond, eqb, eqb-true, List, [], ◌∷◌, ◌++◌, length, take, Option, Some, None, slice_get, refl, sym, ap, ◌∙◌, subst, inl, inr, append_assoc, append-nil, arith}
+use Rattle.std.proofs.lemmas.Bool.{and_parts, cases_order}
 use Rattle.std.proofs.lemmas.Option.{slice_get_within}
 use Rattle.a429_word.specs.declared.bus.Bus.{Bus}
 use Rattle.a429_word.specs.declared.bus.Bus.TheVariants as bus
@@ -16,11 +16,30 @@ use Rattle.a429_link.specs.Number.{is_number}
 use Rattle.a429_link.specs.Run.{IsSubsequenceOf}
 use Rattle.a429_link.proofs.Contradictions.{latest_push, next_item}
 use Rattle.a429_link.proofs.NumberFacts.{number_from}
+use Rattle.a429_link.proofs.NumberKept.{sub_all}
+use Rattle.a429_link.proofs.Subsequence.{sub_length}
 use Rattle.a429_explain.specs.declared.decoded.DecodedWord.{DecodedWord}
 use Rattle.a429_explain.specs.Decoded.{IsHeardAt}
 use Rattle.a429_search.specs.declared.rival.Rival.{Rival}
 use Rattle.a429_search.specs.Rival.{AreMoreWords, Asked, Attempts, IsRival, IsRivalAt, after, at_first, cleared, heard, heard_as, if_asked, joined, latest_request, named_as, request_from, started, with_request}
-use Rattle.a429_search.proofs.ApartFacts.{plain, whole_apart}
+
+-- ---- two attempts
+
+-- one of as many words as are asked for is the whole block
+whole_apart : (xs ys : List ℕ) (n : ℕ) → length xs ≡ n → (IsSubsequenceOf ys xs → ⊥) → (zs : List ℕ) → IsSubsequenceOf xs zs → IsSubsequenceOf ys zs → n < length zs
+whole_apart xs ys n e other zs a b = elim (cases_order n (length zs)) [
+  | inl same ↦ absurd (other (subst (IsSubsequenceOf ys) (sym (sub_all xs zs (e ∙ same) a)) b))
+  | inr (inl less) ↦ less
+  | inr (inr more) ↦ absurd (omega (arith, more, e, sub_length xs zs a))
+]
+
+pub no_part : (r : Bool) (xs ys : List ℕ) → IsTrue r ↔ IsSubsequenceOf xs ys → IsTrue (not r) → IsSubsequenceOf xs ys → ⊥
+no_part true xs ys s found h = absurd (cc found)
+no_part false xs ys s found h = let is = s.1 h in absurd (cc is)
+
+-- without the number that is acknowledged in it
+abbrev plain : Attempt → Attempt
+plain a = record a { acked = None }
 
 -- ---- the last request
 

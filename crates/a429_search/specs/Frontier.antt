@@ -1,108 +1,93 @@
 -- What a source may have done up to an attempt, as hypotheses that are carried from one attempt to the next (profile).
-use Rattle.std.specs.Prelude.{ℕ, zero, suc, ◌≡◌, ◌⊎◌, ◌+◌, ◌%◌, ◌≤◌, Bool, true, false, List, [], ◌∷◌, ◌++◌, All, Contains, Option, Some, None, is_some}
+use Rattle.std.specs.Prelude.{◌≡◌, ◌<◌, ◌≤◌, ◌⊎◌, ℕ, Bool, true, List, [], ◌∷◌, Option, Some, None, IfSome, is_some, length, slice_get}
 use Rattle.a429_profile.specs.Profile.{Contents}
-use Rattle.a429_profile.specs.declared.codes.Codes.{Codes}
+use Rattle.a429_ldu.specs.Ldu.{LduValue}
+use Rattle.a429_link.specs.Assignment.{Assigned, IsNext, IsOf, IsSound}
 use Rattle.a429_link.specs.declared.number.UnitNumber.{UnitNumber}
 use Rattle.a429_link.specs.declared.seen.Seen.{Seen}
-use Rattle.a429_link.specs.Attempt.{Attempt, attempts}
-use Rattle.a429_link.specs.Number.{number_after}
-use Rattle.a429_link.specs.Assignment.{Assigned, IsSound, IsOf}
+use Rattle.a429_link.specs.Attempt as link
+use Rattle.a429_explain.specs.Decoded.{HeardValue}
+use Rattle.a429_explain.specs.Guess.{IsGuess}
+use Rattle.a429_search.specs.declared.attempts.Attempt.{Attempt}
+use Rattle.a429_search.specs.declared.groups.Group.{Group}
+use Rattle.a429_search.specs.declared.searching.Hypothesis.{Hypothesis}
+use Rattle.a429_search.specs.declared.standing.Standing.{Standing}
+use Rattle.a429_search.specs.declared.searching.Found.{Found}
+use Rattle.a429_search.specs.declared.searching.Found.TheVariants as found
+use Rattle.a429_search.specs.Block.{MayBeUnitOf}
+use Rattle.a429_search.specs.Contradiction.{HasNoRun}
+use Rattle.a429_search.specs.Recorded.{IsAttemptFrom, MayBeTo}
+use Rattle.a429_search.specs.Standing.{IsAt, Stands, StandsLater, all_give_ups}
 
--- which number a source has come to, and how many files it has given up since it last heard an acknowledgement
-pub record Standing : Type 0 where
-  -- the number known last: that of a start word, or the one that comes next after the acknowledgement heard last
-  pub known : Option UnitNumber
-  -- up to that number it has given up so many files, or more
-  pub gave : ℕ
-  -- since that number it has given up so many files, or more
-  pub since : ℕ
-  -- the present link data unit has the known number
-  pub started : Bool
+-- the attempts of the group may have been attempts to send this link data unit
+abbrev pub FitsGroup : Contents → Option Group → LduValue → Type 0
+FitsGroup p None u = Unit {0}
+FitsGroup p (Some g) u = MayBeUnitOf p g.pieces u
 
--- the number after so many files are given up: the first number of a later file, or, after none, the same number
-abbrev pub past : Codes → UnitNumber → ℕ → UnitNumber
-past c n zero = n
-past c n (suc d) = record { file = (n.file + suc d) % 256; ldu = c.first_ldu }
+-- the hypothesis allows that the last attempt, or the next one, is to send this: with the link data unit of its group, or with one of a
+-- later file
+abbrev pub Covers : Contents → Hypothesis → Assigned → Type 0
+Covers p h t = StandsLater p.codes.first_ldu h.standing t.number t.give_ups ⊎ (Stands p.codes.first_ldu h.standing t.number t.give_ups × FitsGroup p h.group t.unit)
 
--- the source may be at number m with g files given up
-abbrev pub MayStand : Codes → Option UnitNumber → Bool → Standing → UnitNumber → ℕ → Type 0
-MayStand c None started s m g = (m.ldu ≡ c.first_ldu) × (s.gave + s.since ≤ g)
-MayStand c (Some n) true s m g = (m ≡ n) × (s.gave ≤ g)
-MayStand c (Some n) false s m g = (d : ℕ) × (s.since ≤ d) × (m ≡ past c n d) × (s.gave + d ≤ g)
+-- one of the hypotheses does
+pub record AreCovered (p : Contents) (hyps : List Hypothesis) (t : Assigned) : Type 0 where
+  pub place : ℕ
+  pub hypothesis : Hypothesis
+  pub is : slice_get hyps place ≡ Some hypothesis
+  pub covers : Covers p hypothesis t
 
-abbrev pub Stands : Codes → Standing → UnitNumber → ℕ → Type 0
-Stands c s m g = MayStand c s.known s.started s m g
+-- the source is where this is said of it, or at a later file
+abbrev pub IsAmong : ℕ → Standing → Assigned → Type 0
+IsAmong first s t = Stands first s t.number t.give_ups ⊎ StandsLater first s t.number t.give_ups
 
--- a hypothesis: where the source stands, and its attempts to send the present link data unit
-pub record Branch : Type 0 where
-  pub at : Standing
-  pub attempts : List Attempt
+-- each of the hypotheses is still there
+abbrev pub AreKept : List Hypothesis → List Hypothesis → Type 0
+AreKept old new = (k : ℕ) (h : Hypothesis) → slice_get old k ≡ Some h → slice_get new k ≡ Some h
 
--- the hypothesis allows that the last attempt is assigned to t: the source may have come to its number, and each attempt of the
--- hypothesis may have been one to send its link data unit
-pub record Covers (p : Contents) (h : Branch) (t : Assigned) : Type 0 where
-  pub sound : IsSound p t
-  pub stands : Stands p.codes h.at t.number t.give_ups
-  pub each : All (λ a. IsOf p (Some t) a) h.attempts
+-- the hypotheses carried on to an attempt cover what those before cover, where it may be what the attempt was to send
+abbrev pub CarriesOn : Contents → List Hypothesis → Attempt → List Hypothesis → Type 0
+CarriesOn p hyps a next = (t : Assigned) → IsSound p t → MayBeTo p a t → AreCovered p hyps t → AreCovered p next t
 
--- after the source has given up one file more
-abbrev pub fresh : Standing → Standing
-fresh s = record s { since = suc s.since; started = false }
+-- the attempt fits none of the hypotheses
+abbrev pub FitsNone : Contents → List Hypothesis → Attempt → Type 0
+FitsNone p hyps a = (t : Assigned) → IsSound p t → MayBeTo p a t → ¬ AreCovered p hyps t
 
--- at the number after that of an acknowledgement that it has heard
-abbrev pub heard : UnitNumber → Standing
-heard n = record { known = Some n; gave = 0; since = 0; started = false }
+-- the next hypotheses cover whatever may follow the attempt, where the hypotheses before cover what it may be, if they left nothing out
+abbrev pub GoOnFrom : Contents → Bool → List Hypothesis → Attempt → List Hypothesis → Type 0
+GoOnFrom p whole hyps a next = (t u : Assigned) → (whole ≡ true → AreCovered p hyps t) → IsSound p t → MayBeTo p a t → IsNext p.codes (Some t) (is_some a.acknowledged) u → AreCovered p next u
 
--- ---- hypotheses that are carried from attempt to attempt
+-- before all attempts: the source is at the first number of some file
+abbrev pub IsStart : List Hypothesis → Type 0
+IsStart hyps = (h : Hypothesis) × (slice_get hyps 0 ≡ Some h) × (h.standing.known ≡ None) × (h.standing.give_ups ≡ 0) × (h.standing.since ≡ 0) × (h.group ≡ None)
 
--- the hypothesis that the source has given its file up, and that this attempt is its first one to send another link data unit
-abbrev pub begun : Branch → Attempt → Branch
-begun h a = record { at = fresh h.at; attempts = a ∷ [] }
+-- after a start word each hypothesis is at its number
+abbrev pub AreAt : Option UnitNumber → List Hypothesis → Type 0
+AreAt start hyps = IfSome start (λ n. (k : ℕ) (h : Hypothesis) → slice_get hyps k ≡ Some h → IsAt n h.standing)
 
--- the hypothesis covers this, or would if the source had given its file up before the last attempt
-abbrev pub IsCovered : Contents → Branch → Attempt → Assigned → Type 0
-IsCovered p h a t = Covers p h t ⊎ Covers p (begun h a) t
+-- it is one of them, and none of them has fewer files given up
+abbrev pub HasFewest : List Hypothesis → ℕ → Type 0
+HasFewest hyps place = (best : Hypothesis) × (slice_get hyps place ≡ Some best) × ((k : ℕ) (h : Hypothesis) → slice_get hyps k ≡ Some h → all_give_ups best.standing ≤ all_give_ups h.standing)
 
--- the hypothesis that the attempt is one more to send the present link data unit
-abbrev pub with_attempt : Branch → Attempt → Branch
-with_attempt h a = record h { attempts = h.attempts ++ a ∷ [] }
+-- the last attempt of the first `to` items, whose request is item `from`, fits none of the hypotheses
+abbrev pub IsRefused : Contents → List Seen → List Hypothesis → ℕ → ℕ → Type 0
+IsRefused p items hyps from to = (a : Attempt) × IsAttemptFrom p items from to a × FitsNone p hyps a
 
--- one of the hypotheses does so
-abbrev pub AreCovered : Contents → List Branch → Attempt → Assigned → Type 0
-AreCovered p hyps a t = (h : Branch) × Contains hyps h × IsCovered p h a t
+-- ---- along the attempts
 
--- where the present link data unit has the known number, no file was given up since
-abbrev pub AreExact : List Branch → Type 0
-AreExact hyps = (h : Branch) → Contains hyps h → h.at.started ≡ true → h.at.since ≡ 0
+-- attempts after one that was assigned to `last`, and acknowledged or not, can be assigned so that the last of them is assigned to `now`,
+-- and acknowledged or not
+abbrev pub CanReach : Contents → Option Assigned → Bool → List link.Attempt → Option Assigned → Bool → Type 0
+CanReach p last acked [] now ok = (now ≡ last) × (ok ≡ acked)
+CanReach p last acked (a ∷ more) now ok = (t : Assigned) × IsSound p t × IsNext p.codes last acked t × IsOf p (Some t) a × CanReach p (Some t) (is_some a.acked) more now ok
 
--- from the hypotheses at attempt `a` to those at the next one, `b`. Whatever one of them allows is covered: that `b` is one more attempt
--- to send the same link data unit, or the first one after a file was given up, or after the acknowledgement of `a` was heard
-pub record StepsTo (p : Contents) (hyps : List Branch) (a b : Attempt) (next : List Branch) : Type 0 where
-  pub exact : AreExact next
-  pub on : (h : Branch) → Contains hyps h → (t : Assigned) → Covers p (with_attempt h b) t ⊎ Covers p (begun h b) t → AreCovered p next b t
-  pub heard : is_some a.acked ≡ true → (t u : Assigned) → AreCovered p hyps a t → IsOf p (Some t) a → IsCovered p (record { at = heard (number_after p.codes t.number t.unit); attempts = b ∷ [] }) b u → AreCovered p next b u
+-- whatever an attempt after all these may be assigned to is covered. The first of them is what was recorded
+-- before the first request
+abbrev pub CoverNext : Contents → List link.Attempt → List Hypothesis → Type 0
+CoverNext p [] hyps = ⊥
+CoverNext p (before ∷ done) hyps = (now : Option Assigned) (ok : Bool) (t : Assigned) → CanReach p None (is_some before.acked) done now ok → IsNext p.codes now ok t → AreCovered p hyps t
 
--- no hypothesis is left, at once or after some of the next attempts
-abbrev pub DiesOut : Contents → List Branch → Attempt → List Attempt → Type 0
-DiesOut p hyps a [] = hyps ≡ []
-DiesOut p hyps a (b ∷ more) = (hyps ≡ []) ⊎ ((next : List Branch) × StepsTo p hyps a b next × DiesOut p next b more)
-
--- before any start word: the source is at the first number of some file
-abbrev pub at_first : Standing
-at_first = record { known = None; gave = 0; since = 0; started = false }
-
--- these hypotheses cover all to which the first attempt may be assigned
-pub record StartsWith (p : Contents) (a : Attempt) (hyps : List Branch) : Type 0 where
-  pub exact : AreExact hyps
-  pub covers : (t : Assigned) → Covers p (record { at = at_first; attempts = a ∷ [] }) t → AreCovered p hyps a t
-
--- hypotheses that cover the first attempt of a recording are carried on from attempt to attempt until none is left. What is recorded
--- before the first request is `before`
-pub record NoneIsLeft (p : Contents) (items : List Seen) : Type 0 where
-  pub before : Attempt
-  pub first : Attempt
-  pub more : List Attempt
-  pub are : attempts p items ≡ before ∷ (first ∷ more)
-  pub hyps : List Branch
-  pub starts : StartsWith p first hyps
-  pub dies : DiesOut p hyps first more
+-- what a search answers: what is guessed of the run, or an entry with which no run's words begin
+abbrev pub IsFound : HeardValue → Found → Type 0
+IsFound d (found.Run guess) = IsGuess d.profile d.items guess
+IsFound d (found.NoRun entry) = (entry < length d.items) × HasNoRun d.profile d.items entry
+IsFound d found.Nothing = Unit {0}

@@ -3,7 +3,7 @@
 ghost use Rattle.std.specs.Prelude.{◌≡◌, ℕ, List, Ok, None, true, false, ◌↔◌, ◌≤◌, ◌+◌, IfOk, IfSome, IfNone, IsSome, IsTrue, EachIndex, length};
 ghost use Rattle.a429_ldu.specs.Carried.{bytes_in};
 ghost use Rattle.a429_ldu.specs.CheckWord.{check_of};
-ghost use Rattle.a429_ldu.specs.Ldu.{LduValue, HasLength};
+ghost use Rattle.a429_ldu.specs.Ldu.{LduValue, HasLength, IsLdu};
 ghost use Rattle.a429_search.specs.Order.{lists_of, words_at, HasEach};
 ghost use Rattle.a429_search.specs.Fill.{Fits, AreDataOf, CanBeCompleted};
 ghost use Rattle.a429_search.specs.Block.{check_wanted, HaveCheckWord, IsUnitOf, MayBeUnitOf, GivesUnit};
@@ -187,4 +187,26 @@ fn end_word(
     };
     let check = check_word_by(profile.check_tables(), &bytes);
     Ok(Some(EndWord { flags: 0, check }))
+}
+
+/// The same link data unit once more: it is one of the profile.
+pub(crate) fn copied(
+    alloc: Global,
+    profile: &Profile,
+    unit: &Ldu,
+) -> Result<Option<Ldu>, AllocError>
+    ensures { IfOk result (λ found. IfSome found (λ u. IsLdu profile.now u)) }
+{
+    match Ldu::new(
+        alloc,
+        profile,
+        unit.gfi(),
+        unit.flags(),
+        unit.check(),
+        unit.words(),
+    ) {
+        Ok(unit) => Ok(Some(unit)),
+        Err(LduFault::OutOfMemory) => Err(AllocError),
+        Err(_) => Ok(None),
+    }
 }

@@ -1,30 +1,39 @@
-//! The decision on a recording: the check, then what its words contradict, and where no certificate is known a search, and then
-//! attempts that no link data unit has both of.
+//! The decision on a recording: the check, then what its words contradict, and where no certificate is known a search for a run, or for
+//! the first word at which no run goes on.
 
 ghost use Rattle.std.specs.Prelude.{◌≡◌, ◌<◌, ℕ, Ok, None, IfOk, IfSome, length};
-ghost use Rattle.a429_cert.specs.Explained.{items_of, IsExplained, AreInSomeRun, AreInEveryRun};
-ghost use Rattle.a429_explain.specs.Explanation.{HasNoFault, HasLeastVersion};
+ghost use Rattle.a429_cert.specs.Explained.{items_of};
 ghost use Rattle.a429_explain.specs.Verdict.{IsSoundVerdict, IsOfSomeRun, IsAccepted, IsOfLeastVersion, IsDoubted, HasNoForm, IsImpossibility, IsExplanation};
 ghost use Rattle.a429_explain.specs.Walk.{AreAllowedUpTo};
 ghost use Rattle.a429_explain.specs.WithoutLoss.{IsWithoutLoss};
-ghost use Rattle.a429_search.specs.Contradiction.{HasNoContradiction, IsFirstContradiction, HasNoRun};
-ghost use Rattle.a429_search.specs.Deciding.{IsImpossibleBy, IsImpossibleUpTo, IsOfCheck, IsReasonAt};
+ghost use Rattle.a429_search.specs.Contradiction.{HasNoContradiction, HasNoRun};
+ghost use Rattle.a429_search.specs.Deciding.{IsImpossibleBy, IsImpossibleUpTo, IsJudged, IsNoRun, IsOfCheck, IsReasonAt};
 
-use crate::apart::first_apart;
 use crate::contradiction::{Contradiction, first_contradiction, what_contradicts_has_no_run};
-use crate::searching::guess_of;
+use crate::searching::{Found, search_for_run};
 use a429_cert::OutOfMemory;
-use a429_explain::walk::{Halt, walk};
-use a429_explain::{Explanation, Reason, Refusal, Verdict, check, explain_by};
+use a429_explain::walk::walk;
+use a429_explain::{Guess, Reason, Refusal, Verdict, check, explain_by};
 use a429_profile::Profile;
 use a429_record::Entry;
 use std::alloc::Global;
 
+// What is found of words that are allowed.
+#[derive(Drop)]
+enum Judged {
+    // No run's words begin with those up to this entry.
+    NoRun(Contradiction),
+    // What is guessed of a run.
+    Guessed(Guess),
+    // Neither.
+    Nothing,
+}
+
 /// The verdict on a recording, under the profile of its bench: that of `check`, where it explains the recording. Else the
 /// recording is impossible from the first word on that those before it do not allow, or that contradicts them, by the
-/// first of `BadBlock`, `WrongNumber` and `OtherBlock` that holds. Where there is no such word a search follows; the
-/// certificate of a run that it finds explains the recording. Where it finds none the recording is impossible, by `NoRun`,
-/// where attempts to send one link data unit are found to have words that no unit has; else the doubt of `check` stays.
+/// first of `BadBlock`, `WrongNumber` and `OtherBlock` that holds; or from an earlier word on, by `NoRun`, at which a search finds that
+/// no run goes on. Where there is no such word, the certificate of a run that the search finds explains the recording. Where it finds none
+/// the doubt of `check` stays.
 pub fn decide(alloc: Global, profile: &Profile, entries: &[Entry]) -> Result<Verdict, OutOfMemory>
     ensures explained { IfOk result (λ v. IsSoundVerdict profile.now (items_of entries.now) v) }
     ensures some_run { IfOk result (λ v. IsOfSomeRun profile.now (items_of entries.now) v) }
@@ -45,102 +54,92 @@ pub fn decide(alloc: Global, profile: &Profile, entries: &[Entry]) -> Result<Ver
             Ok(Verdict::Explained { certificate, files })
         }
         Ok(Verdict::Impossible { entry, reason }) => {
-            match contradiction(alloc, profile, &entries[..entry]) {
-                Ok(Some(earlier)) => Ok(Verdict::Impossible {
-                    entry: earlier.entry,
-                    reason: earlier.reason,
-                }),
+            match earlier(alloc, profile, &entries[..entry]) {
+                Ok(Some(Contradiction { entry, reason })) => {
+                    Ok(Verdict::Impossible { entry, reason })
+                }
                 Ok(None) => Ok(Verdict::Impossible { entry, reason }),
                 Err(OutOfMemory) => Err(OutOfMemory),
             }
         }
-        Ok(Verdict::Unexplained { entry, doubt }) => {
-            match contradiction(alloc, profile, entries) {
-                Ok(Some(Contradiction { entry, reason })) => Ok(Verdict::Impossible {
-                    entry,
-                    reason,
-                }),
-                Ok(None) => match found(alloc, profile, entries) {
-                    Ok(Some(found)) => Ok(Verdict::Explained {
-                        certificate: found.certificate,
-                        files: found.files,
-                    }),
-                    Ok(None) => match apart(alloc, profile, entries) {
-                        Ok(Some(entry)) => Ok(Verdict::Impossible {
-                            entry,
-                            reason: Reason::NoRun,
-                        }),
-                        Ok(None) => Ok(Verdict::Unexplained { entry, doubt }),
-                        Err(OutOfMemory) => Err(OutOfMemory),
-                    },
-                    Err(OutOfMemory) => Err(OutOfMemory),
-                },
-                Err(OutOfMemory) => Err(OutOfMemory),
+        Ok(Verdict::Unexplained { entry, doubt }) => match look_closer(alloc, profile, entries) {
+            Ok(Judged::NoRun(Contradiction { entry, reason })) => {
+                Ok(Verdict::Impossible { entry, reason })
             }
-        }
+            Ok(Judged::Guessed(guess)) => match explain_by(alloc, profile, entries, guess) {
+                Ok(found) => Ok(Verdict::Explained {
+                    certificate: found.certificate,
+                    files: found.files,
+                }),
+                Err(Refusal::NotReplayed { .. }) => Ok(Verdict::Unexplained { entry, doubt }),
+                Err(Refusal::OutOfMemory) => Err(OutOfMemory),
+            },
+            Ok(Judged::Nothing) => Ok(Verdict::Unexplained { entry, doubt }),
+            Err(OutOfMemory) => Err(OutOfMemory),
+        },
         Err(OutOfMemory) => Err(OutOfMemory),
     }
 }
 
-// The first word that contradicts those before it, in a recording of which no word is refused.
-fn contradiction(
+// The word at which no run goes on, where there is one among words that are allowed.
+fn earlier(
     alloc: Global,
     profile: &Profile,
     entries: &[Entry],
 ) -> Result<Option<Contradiction>, OutOfMemory>
     requires { AreAllowedUpTo profile.now (items_of entries.now) (length (items_of entries.now)) }
-    ensures first { IfOk result (λ found. IfSome found (IsFirstContradiction profile.now (items_of entries.now))) }
-    ensures impossible { IfOk result (λ found. IfSome found (λ c. HasNoRun profile.now (items_of entries.now) c.entry)) }
+    ensures some { IfOk result (λ found. IfSome found (IsNoRun profile.now (items_of entries.now))) }
     ensures none { result ≡ Ok None → HasNoContradiction profile.now (items_of entries.now) (length (items_of entries.now)) }
 {
-    match walk(alloc, profile, entries) {
-        Ok(decoded) => match first_contradiction(alloc, &decoded) {
-            Ok(found) => Ok(found),
-            Err(_) => Err(OutOfMemory),
-        },
-        Err(Halt { .. }) => Ok(None),
+    match look_closer(alloc, profile, entries)? {
+        Judged::NoRun(found) => Ok(Some(found)),
+        Judged::Guessed(_) => Ok(None),
+        Judged::Nothing => Ok(None),
     }
 }
 
-// The first word with which attempts to send one link data unit are found to have words that no unit has.
-fn apart(alloc: Global, profile: &Profile, entries: &[Entry]) -> Result<Option<usize>, OutOfMemory>
-    ensures inside { IfOk result (λ found. IfSome found (λ n. n < length entries.now)) }
-    ensures impossible { IfOk result (λ found. IfSome found (λ n. HasNoRun profile.now (items_of entries.now) n)) }
+// The first word that contradicts those before it, or an earlier one at which no run goes on; without one what is guessed of a run.
+fn look_closer(alloc: Global, profile: &Profile, entries: &[Entry]) -> Result<Judged, OutOfMemory>
+    requires { AreAllowedUpTo profile.now (items_of entries.now) (length (items_of entries.now)) }
+    ensures { IfOk result (IsJudged profile.now (items_of entries.now)) }
 {
-    match walk(alloc, profile, entries) {
-        Ok(decoded) => match first_apart(alloc, &decoded) {
-            Ok(found) => Ok(found),
-            Err(_) => Err(OutOfMemory),
-        },
-        Err(Halt { .. }) => Ok(None),
-    }
-}
-
-// The certificate of a run that the search finds.
-fn found(
-    alloc: Global,
-    profile: &Profile,
-    entries: &[Entry],
-) -> Result<Option<Explanation>, OutOfMemory>
-    ensures explained { IfOk result (λ found. IfSome found (λ e. IsExplained profile.now e.certificate (items_of entries.now) e.files)) }
-    ensures some_run { IfOk result (λ found. IfSome found (λ e. AreInSomeRun profile.now (items_of entries.now) e.files)) }
-    ensures every { IfOk result (λ found. IfSome found (λ e. AreInEveryRun profile.now (items_of entries.now) e.files)) }
-    ensures accepted { IfOk result (λ found. IfSome found (λ e. HasNoFault profile.now e.certificate (items_of entries.now))) }
-    ensures version { IfOk result (λ found. IfSome found (λ e. HasLeastVersion profile.now e.certificate (items_of entries.now))) }
-{
-    let decoded = match walk(alloc, profile, entries) {
-        Ok(decoded) => decoded,
-        Err(Halt { .. }) => return Ok(None),
+    let Ok(decoded) = walk(alloc, profile, entries) else {
+        return Ok(Judged::Nothing);
     };
-    let Ok(guess) = guess_of(alloc, &decoded) else {
+    let Ok(found) = first_contradiction(alloc, &decoded) else {
         return Err(OutOfMemory);
     };
-    let Some(guess) = guess else {
+    if let Some(found) = found {
+        return match no_run(alloc, profile, &entries[..found.entry])? {
+            Some(entry) => {
+                let reason = Reason::NoRun;
+                Ok(Judged::NoRun(Contradiction { entry, reason }))
+            }
+            None => Ok(Judged::NoRun(found)),
+        };
+    }
+    match search_for_run(alloc, &decoded) {
+        Ok(Found::Run(guess)) => Ok(Judged::Guessed(guess)),
+        Ok(Found::NoRun { entry }) => {
+            let reason = Reason::NoRun;
+            Ok(Judged::NoRun(Contradiction { entry, reason }))
+        }
+        Ok(Found::Nothing) => Ok(Judged::Nothing),
+        Err(_) => Err(OutOfMemory),
+    }
+}
+
+// The first word at which a search finds that no run goes on.
+fn no_run(alloc: Global, profile: &Profile, entries: &[Entry]) -> Result<Option<usize>, OutOfMemory>
+    ensures inside { IfOk result (λ found. IfSome found (λ entry. entry < length entries.now)) }
+    ensures no_run { IfOk result (λ found. IfSome found (λ entry. HasNoRun profile.now (items_of entries.now) entry)) }
+{
+    let Ok(decoded) = walk(alloc, profile, entries) else {
         return Ok(None);
     };
-    match explain_by(alloc, profile, entries, guess) {
-        Ok(found) => Ok(Some(found)),
-        Err(Refusal::NotReplayed { .. }) => Ok(None),
-        Err(Refusal::OutOfMemory) => Err(OutOfMemory),
+    match search_for_run(alloc, &decoded) {
+        Ok(Found::NoRun { entry }) => Ok(Some(entry)),
+        Ok(_) => Ok(None),
+        Err(_) => Err(OutOfMemory),
     }
 }

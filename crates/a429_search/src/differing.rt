@@ -40,6 +40,30 @@ pub(crate) fn differing(
     Ok(Some(kept))
 }
 
+/// The same of these lists and one more, which is new or not: where it is not, it is some list's own.
+pub(crate) fn lists_with(
+    alloc: Global,
+    lists: &[Vec<Word>],
+    list: &[Word],
+    is_new: bool,
+    budget: &mut Budget,
+) -> Result<Option<Vec<Vec<Word>>>, AllocError>
+    ensures only { IfOk result (λ found. IfSome found (λ kept. (zs : List ℕ) → HasEach zs (lists_of lists.now) → IsSubsequenceOf list.now zs → HasEach zs (lists_of kept.items))) }
+    ensures cut { budget.new.is_cut ≡ budget.old.is_cut }
+{
+    let Some(mut kept) = differing(alloc, lists, budget)? else {
+        return Ok(None);
+    };
+    if !is_new {
+        return Ok(Some(kept));
+    }
+    keep(&mut kept, Vec::from_slice(alloc, list)?)?;
+    if kept.len() > MOST_ATTEMPTS {
+        return Ok(None);
+    }
+    Ok(Some(kept))
+}
+
 // Keeps one list more, in place of the first that it has.
 fn keep(kept: &mut Vec<Vec<Word>>, list: Vec<Word>) -> Result<(), AllocError>
     ensures all { OnOk result ((zs : List ℕ) → HasEach zs (lists_of kept.new.items) → HasEach zs (lists_of kept.old.items) × IsSubsequenceOf list.items zs) }
@@ -53,8 +77,8 @@ fn keep(kept: &mut Vec<Vec<Word>>, list: Vec<Word>) -> Result<(), AllocError>
     Ok(())
 }
 
-// Whether some list has these words in their order.
-fn is_in_some(words: &[Word], lists: &[Vec<Word>]) -> bool
+/// Whether some list has these words in their order.
+pub(crate) fn is_in_some(words: &[Word], lists: &[Vec<Word>]) -> bool
     ensures { IsTrue result ↔ SomeIndex lists.now (λ i. IsSubsequenceOf words.now (words_at (lists_of lists.now) i)) }
 {
     for list in lists {

@@ -1,18 +1,19 @@
 //! Groups: attempts of one link data unit.
 
-ghost use Rattle.std.specs.Prelude.{◌≡◌, ◌≤◌, true, IfSome};
+ghost use Rattle.std.specs.Prelude.{◌≡◌, ◌≤◌, ℕ, Ok, None, true, false, IfOk, IfSome, IsTrue};
+ghost use Rattle.a429_profile.specs.Profile.{Contents};
+ghost use Rattle.a429_ldu.specs.Ldu.{LduValue};
+ghost use Rattle.a429_search.specs.Block.{MayBeUnitOf};
+ghost use Rattle.a429_search.specs.Recorded.{MayBeOf};
 
 use crate::attempts::Attempt;
-use crate::block::unit_of_pieces;
+use crate::block::{copied, unit_of_pieces};
 use crate::budget::Budget;
-use crate::differing::MOST_ATTEMPTS;
-use crate::pieces::GroupPieces;
-use crate::subsequence::is_subsequence;
+use crate::differing::{is_in_some, lists_with};
+use crate::pieces::{EndWord, GroupPieces};
 use a429_ldu::Ldu;
 use a429_profile::Profile;
-use a429_word::Word;
 use std::alloc::{AllocError, Global};
-use std::mem;
 
 /// Attempts one after the other, and a link data unit that each of them may have been of.
 #[derive(Drop)]
@@ -34,91 +35,69 @@ impl Group {
         attempt: &Attempt,
         budget: &mut Budget,
     ) -> Result<Option<Group>, AllocError>
+        ensures covers { IfOk result (λ found. IfSome found (λ g. (u : LduValue) → MayBeOf profile.now attempt.now u → MayBeUnitOf profile.now g.pieces u)) }
+        ensures none { result ≡ Ok None → budget.new.is_cut ≡ false → (u : LduValue) → ¬ MayBeOf profile.now attempt.now u }
         ensures cut { budget.old.is_cut ≡ true → budget.new.is_cut ≡ true }
     {
-        let mut pieces = GroupPieces {
+        let mut attempts = Vec::new(alloc);
+        attempts.push(Vec::from_slice(alloc, &attempt.words)?)?;
+        let pieces = GroupPieces {
             count: attempt.count,
             gfi: attempt.gfi(),
             end: attempt.end,
-            attempts: Vec::new(alloc),
+            attempts,
         };
-        pieces
-            .attempts
-            .push(Vec::from_slice(alloc, &attempt.data)?)?;
+        let at = attempt.at;
         match unit_found(alloc, profile, &pieces, budget)? {
-            Some(unit) => Ok(Some(Group {
-                at: attempt.at,
-                pieces,
-                unit,
-            })),
+            Some(unit) => Ok(Some(Group { at, pieces, unit })),
             None => Ok(None),
         }
     }
 
-    /// Takes an attempt into the group. `false`, and the group is as it was, where no link data unit is found for both. Where there
-    /// may be one all the same the budget says that a search was cut short.
-    pub(crate) fn join(
-        &mut self,
+    /// The group with one more attempt; `None` where no link data unit is found for all. Where there may be one all the same the budget
+    /// says that a search was cut short.
+    pub(crate) fn with(
+        &self,
         alloc: Global,
         profile: &Profile,
         attempt: &Attempt,
         budget: &mut Budget,
-    ) -> Result<bool, AllocError>
+    ) -> Result<Option<Group>, AllocError>
+        ensures covers { IfOk result (λ found. IfSome found (λ g. (u : LduValue) → MayBeUnitOf profile.now self.now.pieces u → MayBeOf profile.now attempt.now u → MayBeUnitOf profile.now g.pieces u)) }
+        ensures none { result ≡ Ok None → budget.new.is_cut ≡ false → (u : LduValue) → MayBeUnitOf profile.now self.now.pieces u → ¬ MayBeOf profile.now attempt.now u }
         ensures cut { budget.old.is_cut ≡ true → budget.new.is_cut ≡ true }
     {
         if self.contradicts(attempt) {
-            return Ok(false);
+            return Ok(None);
         }
         if budget.is_spent() {
             budget.cut();
-            return Ok(false);
+            return Ok(None);
         }
         budget.spend(self.steps_to_compare());
-        let is_known = attempt.gfi().is_none() || self.pieces.gfi.is_some();
-        let ends_known = attempt.end.is_none() || self.pieces.end.is_some();
-        if is_known && ends_known && self.has(&attempt.data) {
-            return Ok(true);
-        }
-        if self.pieces.attempts.len() >= MOST_ATTEMPTS {
+        let is_new = !is_in_some(&attempt.words, &self.pieces.attempts);
+        let Some(pieces) = self.pieces_with(alloc, attempt, is_new, budget)? else {
             budget.cut();
-            return Ok(false);
+            return Ok(None);
+        };
+        let at = self.at;
+        let says_more = is_new || pieces.gfi != self.pieces.gfi || pieces.end != self.pieces.end;
+        if !says_more && let Some(unit) = copied(alloc, profile, &self.unit)? {
+            return Ok(Some(Group { at, pieces, unit }));
         }
-        let (gfi, end) = (self.pieces.gfi, self.pieces.end);
-        self.pieces.gfi = gfi.or(attempt.gfi());
-        self.pieces.end = end.or(attempt.end);
-        self.pieces
-            .attempts
-            .push(Vec::from_slice(alloc, &attempt.data)?)?;
-        match unit_found(alloc, profile, &self.pieces, budget)? {
-            Some(unit) => {
-                self.unit = unit;
-                self.leave_parts_out(alloc, &attempt.data)?;
-                Ok(true)
-            }
-            None => {
-                self.pieces.gfi = gfi;
-                self.pieces.end = end;
-                let _ = self.pieces.attempts.pop();
-                Ok(false)
-            }
+        match unit_found(alloc, profile, &pieces, budget)? {
+            Some(unit) => Ok(Some(Group { at, pieces, unit })),
+            None => Ok(None),
         }
     }
 
     // Count, general format identifier or end word of the attempt are not the group's.
-    fn contradicts(&self, attempt: &Attempt) -> bool {
+    fn contradicts(&self, attempt: &Attempt) -> bool
+        ensures { IsTrue result → (p : Contents) (u : LduValue) → MayBeUnitOf p self.now.pieces u → ¬ MayBeOf p attempt.now u }
+    {
         self.pieces.count != attempt.count
             || are_other(self.pieces.gfi, attempt.gfi())
-            || are_other(self.pieces.end, attempt.end)
-    }
-
-    // Some attempt of the group recorded all these data words.
-    fn has(&self, data: &[Word]) -> bool {
-        for words in &self.pieces.attempts {
-            if is_subsequence(data, words) {
-                return true;
-            }
-        }
-        false
+            || are_other_ends(self.pieces.end, attempt.end)
     }
 
     // How many words at most are compared to find out, and to leave attempts out.
@@ -127,23 +106,46 @@ impl Group {
         many.saturating_mul(usize::from(self.pieces.count))
     }
 
-    // Leaves out the attempts whose data words the attempt taken last has, in their order: it has these.
-    fn leave_parts_out(&mut self, alloc: Global, data: &[Word]) -> Result<(), AllocError> {
-        let taken = mem::replace(&mut self.pieces.attempts, Vec::new(alloc));
-        let count = taken.len();
-        for (i, words) in taken.into_iter().enumerate() {
-            if i + 1 == count || !is_subsequence(&words, data) {
-                self.pieces.attempts.push(words)?;
-            }
-        }
-        Ok(())
+    // What was recorded, with one more attempt, whose data words are new or not. `None` where there would be too many.
+    fn pieces_with(
+        &self,
+        alloc: Global,
+        attempt: &Attempt,
+        is_new: bool,
+        budget: &mut Budget,
+    ) -> Result<Option<GroupPieces>, AllocError>
+        ensures covers { IfOk result (λ found. IfSome found (λ g. (p : Contents) (u : LduValue) → MayBeUnitOf p self.now.pieces u → MayBeOf p attempt.now u → MayBeUnitOf p g u)) }
+        ensures cut { budget.new.is_cut ≡ budget.old.is_cut }
+    {
+        let taken = &self.pieces.attempts;
+        let Some(attempts) = lists_with(alloc, taken, &attempt.words, is_new, budget)? else {
+            return Ok(None);
+        };
+        Ok(Some(GroupPieces {
+            count: self.pieces.count,
+            gfi: self.pieces.gfi.or(attempt.gfi()),
+            end: self.pieces.end.or(attempt.end),
+            attempts,
+        }))
     }
 }
 
 // Both are known, and they differ.
-fn are_other<T: Copy + PartialEq>(one: Option<T>, other: Option<T>) -> bool {
+fn are_other(one: Option<u8>, other: Option<u8>) -> bool
+    ensures { IsTrue result → (n : ℕ) → IfSome one (λ m. n ≡ m) → ¬ IfSome other (λ m. n ≡ m) }
+{
     match (one, other) {
         (Some(one), Some(other)) => one != other,
+        _ => false,
+    }
+}
+
+// The same of end words.
+fn are_other_ends(one: Option<EndWord>, other: Option<EndWord>) -> bool
+    ensures { IsTrue result → (flags check : ℕ) → IfSome one (λ e. (flags ≡ e.flags) × (check ≡ e.check)) → ¬ IfSome other (λ e. (flags ≡ e.flags) × (check ≡ e.check)) }
+{
+    match (one, other) {
+        (Some(one), Some(other)) => one.flags != other.flags || one.check != other.check,
         _ => false,
     }
 }
@@ -156,6 +158,7 @@ fn unit_found(
     pieces: &GroupPieces,
     budget: &mut Budget,
 ) -> Result<Option<Ldu>, AllocError>
+    ensures exact { result ≡ Ok None → budget.new.is_cut ≡ false → (u : LduValue) → ¬ MayBeUnitOf profile.now pieces.now u }
     ensures cut { budget.old.is_cut ≡ true → budget.new.is_cut ≡ true }
 {
     if budget.is_spent() || !are_in_range(pieces) {

@@ -2,7 +2,6 @@
 #![tactic(auto)]
 
 mod against;
-mod apart;
 mod attempt_words;
 mod attempts;
 mod block;
@@ -15,9 +14,7 @@ mod deciding;
 mod differing;
 mod fill;
 mod free_bits;
-mod frontier;
 mod groups;
-mod hypotheses;
 mod longest;
 mod merged;
 mod one_by_one;
@@ -27,12 +24,11 @@ mod pieces;
 mod rival;
 mod searching;
 mod so_far;
+mod standing;
 mod subsequence;
 mod trail;
-mod trials;
 
 pub use crate::against::{Against, held_against};
-pub use crate::apart::first_apart;
 pub use crate::block::unit_of_pieces;
 pub use crate::bounded::{MOST_NODES, search_words};
 pub use crate::budget::Budget;
@@ -41,10 +37,8 @@ pub use crate::deciding::decide;
 pub use crate::differing::MOST_ATTEMPTS;
 pub use crate::fill::{Wanted, completed};
 pub use crate::free_bits::bits_for_check_word;
-pub use crate::frontier::no_run_without_a_hypothesis;
 pub use crate::order::merge_in_one_order;
 pub use crate::pair::merge_shortest;
 pub use crate::pieces::{EndWord, GroupPieces};
 pub use crate::rival::Rival;
-pub use crate::searching::MOST_HYPOTHESES;
 pub use crate::subsequence::is_subsequence;

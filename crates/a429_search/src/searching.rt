@@ -1,141 +1,369 @@
-//! The search for a run that recorded the words of a recording with losses.
+//! The search for a run that recorded the words of a recording with losses, or for the first word at which no run goes on.
 
-ghost use Rattle.std.specs.Prelude.{◌≡◌, true, IfOk, IfSome};
-ghost use Rattle.a429_explain.specs.Guess.{IsGuess};
+ghost use Rattle.std.specs.Prelude.{◌≡◌, ◌<◌, ◌≤◌, ◌+◌, ℕ, [], Ok, Option, None, Some, true, false, IfOk, IfSome, IsTrue, OnOk, length, slice_get};
+ghost use Rattle.a429_profile.specs.Profile.{Contents};
+ghost use Rattle.a429_ldu.specs.Ldu.{LduValue};
+ghost use Rattle.a429_link.specs.Assignment.{Assigned, IsSound};
+ghost use Rattle.a429_search.specs.Block.{MayBeUnitOf};
+ghost use Rattle.a429_search.specs.Frontier.{AreAt, AreCovered, AreKept, CarriesOn, Covers, FitsGroup, FitsNone, GoOnFrom, HasFewest, IsAmong, IsFound, IsRefused, IsStart};
+ghost use Rattle.a429_search.specs.Recorded.{MayBeOf, MayBeTo, number_of};
+ghost use Rattle.a429_search.specs.Standing.{Begins, IsAt, Stands, StandsLater};
 
-use crate::attempts::Attempt;
+use crate::attempts::{Attempt, attempt_of, first_request, next_request};
 use crate::budget::Budget;
 use crate::groups::Group;
-use crate::hypotheses::Hypothesis;
 use crate::merged::STEPS_A_WORD;
-use crate::trail::{Course, Trail, group_of, with_heard};
-use a429_explain::{Decoded, DecodedWord, Guess, roles};
-use a429_ldu::Form;
+use crate::standing::{Standing, Ways};
+use crate::trail::{Course, Trail, with_heard};
+use a429_explain::{Decoded, Guess, roles};
+use a429_link::laws::attempts::runs_record_what_can_be_assigned;
 use a429_link::{UnitNumber, is_final};
 use a429_profile::Profile;
 use std::alloc::{AllocError, Global};
-use std::mem;
 
-/// How many hypotheses are carried on from one attempt to the next, at most.
-pub const MOST_HYPOTHESES: usize = 32;
-
-// A search, as far as it has come.
+/// A way in which the source may have come to the last attempt: how the attempts so far are cut into groups, each to send one link data
+/// unit.
 #[derive(Drop)]
-struct Search<'a> {
+pub(crate) struct Hypothesis {
+    pub standing: Standing,
+    /// The present group; none yet where the source has just heard an acknowledgement.
+    pub group: Option<Group>,
+    /// How many files were given up right before it.
+    pub before: u8,
+    /// The group before it, by its place in the trail.
+    pub closed: Option<usize>,
+}
+
+/// What a search finds.
+#[derive(Drop)]
+pub(crate) enum Found {
+    /// What is guessed of a run.
+    Run(Guess),
+    /// No run's words begin with those up to this entry.
+    NoRun { entry: usize },
+    /// Neither.
+    Nothing,
+}
+
+// What carries hypotheses on: the groups that they have closed, and the steps that are left.
+#[derive(Drop)]
+struct Carrier<'a> {
     alloc: Global,
-    profile: &'a Profile,
-    hypotheses: Vec<Hypothesis>,
-    // The groups that are present in some hypothesis.
-    groups: Vec<Group>,
     trail: Trail<'a>,
     budget: Budget,
 }
 
-// What was found out of an attempt: which of the groups it fits, and the place of the group that it begins, where it
-// makes one. None of what was not asked.
+// A search, as far as it has come.
 #[derive(Drop)]
-struct Tried {
-    groups: Vec<Option<bool>>,
-    alone: Option<Option<usize>>,
+struct Search<'a> {
+    hypotheses: Vec<Hypothesis>,
+    // The hypotheses leave nothing out that the source may have done.
+    is_whole: bool,
+    carrier: Carrier<'a>,
 }
 
-/// What is guessed of the run that recorded these words; `None` where the search finds no run.
-pub(crate) fn guess_of(alloc: Global, decoded: &Decoded) -> Result<Option<Guess>, AllocError>
-    ensures { IfOk result (λ found. IfSome found (λ g. IsGuess decoded.now.profile decoded.now.items g)) }
+/// Carries hypotheses on from attempt to attempt. Where none is left at one, and nothing was left out before, no run goes on there:
+/// the answer is the first of its entries at which none is left. Else what the hypothesis with the fewest files given up says of a run.
+pub(crate) fn search_for_run(alloc: Global, decoded: &Decoded) -> Result<Found, AllocError>
+    ensures { IfOk result (IsFound decoded.now) }
 {
+    runs_record_what_can_be_assigned();
+    let profile = decoded.profile();
     let mut search = Search::new(alloc, decoded)?;
-    let mut attempt = None;
-    for at in 0..decoded.len() {
-        let DecodedWord { word, form } = decoded.word(at);
-        match form {
-            Some(Form::Rts { count }) => {
-                search.carry_all_on(attempt)?;
-                attempt = Some(Attempt::new(alloc, at, count));
-            }
-            Some(form) => {
-                if let Some(attempt) = &mut attempt {
-                    attempt.take(at, word, form)?;
-                }
-            }
-            None => {}
+    let mut from = first_request(decoded);
+    'attempts: while from < decoded.len() {
+        let to = next_request(decoded, from);
+        let Some(attempt) = attempt_of(alloc, decoded, from, to)? else {
+            // Never: there is a request, and no other before the next one.
+            return Ok(Found::Nothing);
+        };
+        if !search.take(profile, &attempt)? {
+            let entry = search.first_refused(decoded, from, to)?;
+            return Ok(Found::NoRun { entry });
         }
+        from = to;
     }
-    search.carry_all_on(attempt)?;
     search.guess(decoded)
 }
 
 impl<'a> Search<'a> {
-    fn new(alloc: Global, decoded: &Decoded<'a>) -> Result<Search<'a>, AllocError> {
+    fn new(alloc: Global, decoded: &Decoded<'a>) -> Result<Search<'a>, AllocError>
+        ensures start { IfOk result (λ s. IsStart s.hypotheses.items) }
+    {
         let mut hypotheses = Vec::new(alloc);
-        hypotheses.push(Hypothesis::START)?;
+        hypotheses.push(Hypothesis {
+            standing: Standing::START,
+            group: None,
+            before: 0,
+            closed: None,
+        })?;
         Ok(Search {
-            alloc,
-            profile: decoded.profile(),
             hypotheses,
-            groups: Vec::new(alloc),
-            trail: Trail::new(alloc, decoded.profile()),
-            budget: Budget::of_entries(decoded.len()),
+            is_whole: true,
+            carrier: Carrier {
+                alloc,
+                trail: Trail::new(alloc, decoded.profile()),
+                budget: Budget::of_entries(decoded.len()),
+            },
         })
     }
 
-    // Carries all hypotheses on to an attempt.
-    fn carry_all_on(&mut self, attempt: Option<Attempt>) -> Result<(), AllocError>
-        ensures cut { self.old.budget.is_cut ≡ true → self.new.budget.is_cut ≡ true }
+    // Carries the hypotheses on to an attempt. `false`, and they stay, where it fits none of them.
+    fn take(&mut self, profile: &Profile, attempt: &Attempt) -> Result<bool, AllocError>
+        ensures refused { IfOk result (λ goes_on. goes_on ≡ false → (self.new.hypotheses ≡ self.old.hypotheses) × (self.old.is_whole ≡ true) × FitsNone profile.now self.old.hypotheses.items attempt.now) }
+        ensures covers { IfOk result (λ goes_on. goes_on ≡ true → self.new.is_whole ≡ true → GoOnFrom profile.now self.old.is_whole self.old.hypotheses.items attempt.now self.new.hypotheses.items) }
     {
-        let Some(attempt) = attempt else {
-            return Ok(());
-        };
-        let mut tried = self.untried()?;
-        let hypotheses = mem::replace(&mut self.hypotheses, Vec::new(self.alloc));
-        for hypothesis in &hypotheses {
-            self.carry_on(hypothesis, &attempt, &mut tried)?;
+        let next = self.carrier.carried(profile, &self.hypotheses, attempt)?;
+        let is_whole = self.is_still_whole();
+        if is_whole && next.is_empty() {
+            return Ok(false);
         }
-        self.hear(&attempt)?;
-        self.trail.leave_out(&mut self.hypotheses)?;
-        leave_groups_out(self.alloc, &mut self.groups, &mut self.hypotheses)
+        if attempt.acknowledged.is_none() {
+            self.is_whole = is_whole;
+            self.hypotheses = self.carrier.trail.leave_out(next)?;
+            return Ok(true);
+        }
+        let heard = self.carrier.heard(profile, &next, is_whole, attempt)?;
+        let Some(heard) = heard else {
+            self.is_whole = false;
+            self.hypotheses = next;
+            return Ok(true);
+        };
+        self.is_whole = true;
+        self.hypotheses = self.carrier.trail.leave_out(heard)?;
+        Ok(true)
     }
 
-    // Nothing was found out of an attempt yet.
-    fn untried(&self) -> Result<Tried, AllocError> {
-        Ok(Tried {
-            groups: vec![in self.alloc; None; self.groups.len()]?,
-            alone: None,
-        })
-    }
-
-    // Carries a hypothesis on to an attempt, in each way in which the source may have come to it.
-    fn carry_on(
+    // The first entry with which the attempt from one entry up to before another fits none of the hypotheses, as all of it does.
+    fn first_refused(
         &mut self,
-        hypothesis: &Hypothesis,
-        attempt: &Attempt,
-        tried: &mut Tried,
-    ) -> Result<(), AllocError>
-        ensures cut { self.old.budget.is_cut ≡ true → self.new.budget.is_cut ≡ true }
+        decoded: &Decoded,
+        from: usize,
+        to: usize,
+    ) -> Result<usize, AllocError>
+        requires some { from < to }
+        requires inside { to ≤ length decoded.now.items }
+        requires refused { IsRefused decoded.now.profile decoded.now.items self.old.hypotheses.items from to }
+        ensures inside { IfOk result (λ entry. entry < to) }
+        ensures refused { IfOk result (λ entry. IsRefused decoded.now.profile decoded.now.items self.old.hypotheses.items from (entry + 1)) }
     {
-        let ways = hypothesis.ways(self.profile.codes().first_ldu, attempt.number());
-        if let Some(next) = ways.join {
-            let group = self.joined(hypothesis.group, attempt, tried)?;
-            if group.is_some() {
-                self.add(Hypothesis { group, ..next })?;
-                if ways.begin_last {
-                    return Ok(());
-                }
+        let hypotheses = &self.hypotheses;
+        self.carrier.first_refused(decoded, hypotheses, from, to)
+    }
+
+    // Nothing was left out, nor at the last attempt.
+    fn is_still_whole(&self) -> bool
+        ensures whole { result ≡ true → self.now.is_whole ≡ true }
+        ensures uncut { result ≡ true → self.now.carrier.budget.is_cut ≡ false }
+    {
+        self.is_whole && !self.carrier.budget.is_cut()
+    }
+
+    // What is guessed by the hypothesis with the fewest files given up.
+    fn guess(self, decoded: &Decoded) -> Result<Found, AllocError>
+        ensures { IfOk result (IsFound decoded.now) }
+    {
+        let Search {
+            hypotheses,
+            carrier,
+            ..
+        } = self;
+        let Carrier {
+            alloc,
+            mut trail,
+            ..
+        } = carrier;
+        let Some(place) = fewest(&hypotheses) else {
+            return Ok(Found::Nothing);
+        };
+        let best = &hypotheses[place];
+        let last = trail.close(best, None)?;
+        let Course {
+            plans,
+            heard: entries,
+        } = trail.course(decoded.profile(), last)?;
+        let roles = roles(alloc, decoded)?;
+        let roles = with_heard(alloc, &roles, entries)?;
+        Ok(Found::Run(Guess {
+            first_file: best.standing.first_file,
+            roles,
+            plans,
+        }))
+    }
+}
+
+impl<'a> Carrier<'a> {
+    // The hypotheses carried on to an attempt, in each way in which the source may have come to it.
+    fn carried(
+        &mut self,
+        profile: &Profile,
+        hypotheses: &[Hypothesis],
+        attempt: &Attempt,
+    ) -> Result<Vec<Hypothesis>, AllocError>
+        ensures covers { IfOk result (λ next. self.new.budget.is_cut ≡ false → CarriesOn profile.now hypotheses.now attempt.now next.items) }
+        ensures at { IfOk result (λ next. AreAt (number_of attempt.now.start) next.items) }
+    {
+        self.budget = self.budget.afresh();
+        let mut next = Vec::new(self.alloc);
+        for place in 0..hypotheses.len() {
+            self.carry_on(profile, &hypotheses[place], attempt, &mut next)?;
+        }
+        Ok(next)
+    }
+
+    // The same of these hypotheses: the entry is found by halving.
+    fn first_refused(
+        &mut self,
+        decoded: &Decoded,
+        hypotheses: &[Hypothesis],
+        from: usize,
+        to: usize,
+    ) -> Result<usize, AllocError>
+        requires some { from < to }
+        requires inside { to ≤ length decoded.now.items }
+        requires refused { IsRefused decoded.now.profile decoded.now.items hypotheses.now from to }
+        ensures inside { IfOk result (λ entry. entry < to) }
+        ensures refused { IfOk result (λ entry. IsRefused decoded.now.profile decoded.now.items hypotheses.now from (entry + 1)) }
+    {
+        let mut fits = from;
+        let mut refused = to;
+        for _ in 0..usize::BITS {
+            let half = fits + (refused - fits) / 2;
+            if half <= fits {
+                break;
+            }
+            if self.refuses(decoded, hypotheses, from, half)? {
+                refused = half;
+            } else {
+                fits = half;
             }
         }
-        let Some((before, next)) = ways.begin else {
-            return Ok(());
+        Ok(refused - 1)
+    }
+
+    // The attempt from one entry up to before another fits none of the hypotheses.
+    fn refuses(
+        &mut self,
+        decoded: &Decoded,
+        hypotheses: &[Hypothesis],
+        from: usize,
+        to: usize,
+    ) -> Result<bool, AllocError>
+        requires some { from < to }
+        requires inside { to ≤ length decoded.now.items }
+        ensures { IfOk result (λ found. IsTrue found → IsRefused decoded.now.profile decoded.now.items hypotheses.now from to) }
+    {
+        let Some(attempt) = attempt_of(self.alloc, decoded, from, to)? else {
+            return Ok(false);
         };
-        let group = self.alone(attempt, tried)?;
-        if group.is_none() {
+        let next = self.carried(decoded.profile(), hypotheses, &attempt)?;
+        if self.budget.is_cut() {
+            return Ok(false);
+        }
+        Ok(are_none(&next))
+    }
+
+    // Puts a hypothesis carried on to an attempt to the others, in each way in which the source may have come to it.
+    fn carry_on(
+        &mut self,
+        profile: &Profile,
+        hypothesis: &Hypothesis,
+        attempt: &Attempt,
+        next: &mut Vec<Hypothesis>,
+    ) -> Result<(), AllocError>
+        ensures covers { OnOk result (self.new.budget.is_cut ≡ false → (t : Assigned) → IsSound profile.now t → MayBeTo profile.now attempt.now t → Covers profile.now hypothesis.now t → AreCovered profile.now next.new.items t) }
+        ensures kept { OnOk result (AreKept next.old.items next.new.items) }
+        ensures at { OnOk result (AreAt (number_of attempt.now.start) next.old.items → AreAt (number_of attempt.now.start) next.new.items) }
+        ensures cut { self.old.budget.is_cut ≡ true → self.new.budget.is_cut ≡ true }
+    {
+        let first_ldu = profile.codes().first_ldu;
+        let has_group = hypothesis.group.is_some();
+        let standing = hypothesis.standing;
+        let ways = standing.ways(first_ldu, attempt.number(), has_group);
+        let joins = self.join(profile, hypothesis, attempt, &ways, next)?;
+        if joins && ways.begin_last {
             return Ok(());
         }
+        self.begin(profile, hypothesis, attempt, &ways, next)?;
+        Ok(())
+    }
+
+    // Puts a hypothesis with the attempt in its present group to the others, where the source may come so and the attempt fits.
+    fn join(
+        &mut self,
+        profile: &Profile,
+        hypothesis: &Hypothesis,
+        attempt: &Attempt,
+        ways: &Ways,
+        next: &mut Vec<Hypothesis>,
+    ) -> Result<bool, AllocError>
+        ensures covers { IfOk result (λ joins. self.new.budget.is_cut ≡ false → (t : Assigned) → MayBeOf profile.now attempt.now t.unit → FitsGroup profile.now hypothesis.now.group t.unit → IfSome ways.now.join (λ j. IsAmong profile.now.codes.first_ldu j t → AreCovered profile.now next.new.items t)) }
+        ensures later { IfOk result (λ joins. joins ≡ true → (t : Assigned) → IfSome ways.now.join (λ j. StandsLater profile.now.codes.first_ldu j t.number t.give_ups) → AreCovered profile.now next.new.items t) }
+        ensures kept { OnOk result (AreKept next.old.items next.new.items) }
+        ensures at { OnOk result ((start : Option UnitNumber) → IfSome start (λ n. IfSome ways.now.join (IsAt n)) → AreAt start next.old.items → AreAt start next.new.items) }
+        ensures cut { self.old.budget.is_cut ≡ true → self.new.budget.is_cut ≡ true }
+    {
+        let Some(standing) = ways.join else {
+            return Ok(false);
+        };
+        let Some(group) = self.joined(profile, hypothesis, attempt)? else {
+            return Ok(false);
+        };
+        next.push(Hypothesis {
+            standing,
+            group: Some(group),
+            before: hypothesis.before,
+            closed: hypothesis.closed,
+        })?;
+        Ok(true)
+    }
+
+    // Puts a hypothesis whose present group begins with the attempt to the others, where the source may come so and the attempt is one.
+    fn begin(
+        &mut self,
+        profile: &Profile,
+        hypothesis: &Hypothesis,
+        attempt: &Attempt,
+        ways: &Ways,
+        next: &mut Vec<Hypothesis>,
+    ) -> Result<(), AllocError>
+        ensures covers { OnOk result (self.new.budget.is_cut ≡ false → (t : Assigned) → MayBeOf profile.now attempt.now t.unit → Begins ways.now (λ b. Stands profile.now.codes.first_ldu b t.number t.give_ups) → AreCovered profile.now next.new.items t) }
+        ensures kept { OnOk result (AreKept next.old.items next.new.items) }
+        ensures at { OnOk result ((start : Option UnitNumber) → IfSome start (λ n. IfSome ways.now.begin (λ b. IsAt n b.1)) → AreAt start next.old.items → AreAt start next.new.items) }
+        ensures cut { self.old.budget.is_cut ≡ true → self.new.budget.is_cut ≡ true }
+    {
+        let Some((before, standing)) = ways.begin else {
+            return Ok(());
+        };
+        let begun = Group::begin(self.alloc, profile, attempt, &mut self.budget)?;
+        let Some(group) = begun else {
+            return Ok(());
+        };
         let closed = self.close(hypothesis, None)?;
-        self.add(Hypothesis {
-            group,
+        next.push(Hypothesis {
+            standing,
+            group: Some(group),
             before,
             closed,
-            ..next
-        })
+        })?;
+        Ok(())
+    }
+
+    // The present group of a hypothesis with the attempt, or, where it has none, the group that the attempt begins.
+    fn joined(
+        &mut self,
+        profile: &Profile,
+        hypothesis: &Hypothesis,
+        attempt: &Attempt,
+    ) -> Result<Option<Group>, AllocError>
+        ensures covers { IfOk result (λ found. IfSome found (λ g. (u : LduValue) → FitsGroup profile.now hypothesis.now.group u → MayBeOf profile.now attempt.now u → MayBeUnitOf profile.now g.pieces u)) }
+        ensures none { result ≡ Ok None → self.new.budget.is_cut ≡ false → (u : LduValue) → FitsGroup profile.now hypothesis.now.group u → ¬ MayBeOf profile.now attempt.now u }
+        ensures cut { self.old.budget.is_cut ≡ true → self.new.budget.is_cut ≡ true }
+    {
+        match &hypothesis.group {
+            Some(group) => group.with(self.alloc, profile, attempt, &mut self.budget),
+            None => Group::begin(self.alloc, profile, attempt, &mut self.budget),
+        }
     }
 
     // Closes the present group of a hypothesis, as `close` of a trail does: its link data unit is copied.
@@ -144,190 +372,101 @@ impl<'a> Search<'a> {
         hypothesis: &Hypothesis,
         heard: Option<usize>,
     ) -> Result<Option<usize>, AllocError>
-        ensures cut { self.old.budget.is_cut ≡ true → self.new.budget.is_cut ≡ true }
+        ensures cut { self.new.budget.is_cut ≡ self.old.budget.is_cut }
     {
-        if let Some(group) = group_of(hypothesis, &self.groups) {
+        if let Some(group) = &hypothesis.group {
             self.budget
                 .spend(usize::from(group.pieces.count) * STEPS_A_WORD);
         }
-        self.trail.close(hypothesis, &self.groups, heard)
+        self.trail.close(hypothesis, heard)
     }
 
-    // The present group with the attempt, where the attempt fits it; where there is none, the group that it begins.
-    fn joined(
+    // After an attempt that was acknowledged: all hypotheses are one, that with the fewest files given up, since the block was recorded whole.
+    // Beside it comes that of a source that has heard the acknowledgement. Where something was left out before, nothing is any more: the
+    // attempt says at which number the source is. `None` where the attempt is not whole, or no link data unit is found for it.
+    fn heard(
         &mut self,
-        group: Option<usize>,
+        profile: &Profile,
+        next: &[Hypothesis],
+        is_whole: bool,
         attempt: &Attempt,
-        tried: &mut Tried,
-    ) -> Result<Option<usize>, AllocError>
-        ensures cut { self.old.budget.is_cut ≡ true → self.new.budget.is_cut ≡ true }
+    ) -> Result<Option<Vec<Hypothesis>>, AllocError>
+        requires { AreAt (number_of attempt.now.start) next.now }
+        ensures { IfOk result (λ found. IfSome found (λ heard. GoOnFrom profile.now is_whole next.now attempt.now heard.items)) }
     {
-        let Some(place) = group else {
-            return self.alone(attempt, tried);
+        let (Some(start), Some(end)) = (attempt.start, attempt.end) else {
+            return Ok(None);
         };
-        let fits = match tried.groups.get(place) {
-            Some(Some(fits)) => *fits,
-            _ => self.join(place, attempt)?,
-        };
-        if let Some(answer) = tried.groups.get_mut(place) {
-            *answer = Some(fits);
-        }
-        Ok(if fits { group } else { None })
-    }
-
-    // Takes the attempt into the group at this place, where it fits.
-    fn join(&mut self, place: usize, attempt: &Attempt) -> Result<bool, AllocError>
-        ensures cut { self.old.budget.is_cut ≡ true → self.new.budget.is_cut ≡ true }
-    {
-        match self.groups.get_mut(place) {
-            Some(group) => group.join(self.alloc, self.profile, attempt, &mut self.budget),
-            None => Ok(false),
-        }
-    }
-
-    // The place of the group that the attempt begins, where it makes one.
-    fn alone(&mut self, attempt: &Attempt, tried: &mut Tried) -> Result<Option<usize>, AllocError>
-        ensures cut { self.old.budget.is_cut ≡ true → self.new.budget.is_cut ≡ true }
-    {
-        if let Some(found) = tried.alone {
-            return Ok(found);
-        }
-        let found = self.begin(attempt)?;
-        tried.alone = Some(found);
-        Ok(found)
-    }
-
-    // Begins a group with the attempt.
-    fn begin(&mut self, attempt: &Attempt) -> Result<Option<usize>, AllocError>
-        ensures cut { self.old.budget.is_cut ≡ true → self.new.budget.is_cut ≡ true }
-    {
-        let begun = Group::begin(self.alloc, self.profile, attempt, &mut self.budget)?;
+        let begun = Group::begin(self.alloc, profile, attempt, &mut self.budget)?;
         let Some(group) = begun else {
             return Ok(None);
         };
-        let place = self.groups.len();
-        self.groups.push(group)?;
-        Ok(Some(place))
-    }
-
-    // Adds a hypothesis. Of those on which later attempts depend in the same way, the one with the fewest files given
-    // up stays. Where there are too many it is dropped, and the search is cut short.
-    fn add(&mut self, hypothesis: Hypothesis) -> Result<(), AllocError>
-        ensures cut { self.old.budget.is_cut ≡ true → self.new.budget.is_cut ≡ true }
-    {
-        for other in self.hypotheses.iter_mut() {
-            if other.is_like(&hypothesis) {
-                if hypothesis.give_ups < other.give_ups {
-                    *other = hypothesis;
-                }
-                return Ok(());
-            }
-        }
-        if self.hypotheses.len() < MOST_HYPOTHESES {
-            self.hypotheses.push(hypothesis)?;
-        } else {
-            self.budget.cut();
-        }
-        Ok(())
-    }
-
-    // Where the attempt was acknowledged: beside each hypothesis that of a source that has heard it.
-    fn hear(&mut self, attempt: &Attempt) -> Result<(), AllocError>
-        ensures cut { self.old.budget.is_cut ≡ true → self.new.budget.is_cut ≡ true }
-    {
-        let known = self.number_after(attempt);
-        if known.is_none() {
-            return Ok(());
-        }
-        for place in 0..self.hypotheses.len() {
-            let Some(hypothesis) = self.hypotheses.get(place).copied() else {
-                break;
-            };
-            let closed = self.close(&hypothesis, attempt.acknowledged)?;
-            self.add(Hypothesis {
-                first_file: hypothesis.first_file,
-                known,
-                closed,
-                ..Hypothesis::START
-            })?;
-        }
-        Ok(())
-    }
-
-    // The number after that of an attempt that was acknowledged.
-    fn number_after(&self, attempt: &Attempt) -> Option<UnitNumber> {
-        match (attempt.start, attempt.end, attempt.acknowledged) {
-            (Some(start), Some(end), Some(_)) => {
-                let is_final = is_final(self.profile, end.flags);
-                Some(start.number.next(self.profile, is_final))
-            }
-            _ => None,
-        }
-    }
-
-    // What is guessed by the hypothesis with the fewest files given up.
-    fn guess(self, decoded: &Decoded) -> Result<Option<Guess>, AllocError>
-        ensures { IfOk result (λ found. IfSome found (λ g. IsGuess decoded.now.profile decoded.now.items g)) }
-    {
-        let Some(best) = self.best() else {
-            return Ok(None);
+        let one = merged(next, is_whole, start.number, group);
+        let known = start.number.next(profile, is_final(profile, end.flags));
+        let closed = self.close(&one, attempt.acknowledged)?;
+        let heard = Hypothesis {
+            standing: one.standing.heard(known),
+            group: None,
+            before: 0,
+            closed,
         };
-        let Search {
-            alloc,
-            groups,
-            mut trail,
-            ..
-        } = self;
-        let last = trail.close(&best, &groups, None)?;
-        let Course {
-            plans,
-            heard: entries,
-        } = trail.course(decoded.profile(), last)?;
-        let roles = roles(alloc, decoded)?;
-        let roles = with_heard(alloc, &roles, entries)?;
-        Ok(Some(Guess {
-            first_file: best.first_file,
-            roles,
-            plans,
-        }))
-    }
-
-    fn best(&self) -> Option<Hypothesis> {
-        let mut best: Option<Hypothesis> = None;
-        for hypothesis in &self.hypotheses {
-            match best {
-                Some(found) if found.all_give_ups() <= hypothesis.all_give_ups() => {}
-                _ => best = Some(*hypothesis),
-            }
-        }
-        best
+        let mut hypotheses = Vec::new(self.alloc);
+        hypotheses.push(one)?;
+        hypotheses.push(heard)?;
+        Ok(Some(hypotheses))
     }
 }
 
-// Leaves out the groups that are present in none of these hypotheses.
-fn leave_groups_out(
-    alloc: Global,
-    groups: &mut Vec<Group>,
-    hypotheses: &mut [Hypothesis],
-) -> Result<(), AllocError> {
-    let all = mem::replace(groups, Vec::new(alloc));
-    for (from, group) in all.into_iter().enumerate() {
-        let to = groups.len();
-        if move_group(hypotheses, from, to) {
-            groups.push(group)?;
-        }
+// One hypothesis for these, which are all at this number, with another group: that with the fewest files given up. Where something was
+// left out before, none is given up.
+fn merged(next: &[Hypothesis], is_whole: bool, number: UnitNumber, group: Group) -> Hypothesis
+    ensures at { IsAt number result.standing }
+    ensures group { (p : Contents) (u : LduValue) → MayBeUnitOf p group.pieces u → FitsGroup p result.group u }
+    ensures few { is_whole ≡ true → (k : ℕ) (h : Hypothesis) → slice_get next.now k ≡ Some h → IsAt number h.standing → result.standing.give_ups ≤ h.standing.give_ups }
+    ensures none { is_whole ≡ false → result.standing.give_ups ≡ 0 }
+{
+    let Some(place) = fewest(next) else {
+        return Hypothesis {
+            standing: Standing::START.at(number, 0),
+            group: Some(group),
+            before: 0,
+            closed: None,
+        };
+    };
+    let best = &next[place];
+    let at = match &best.group {
+        Some(old) => old.at,
+        None => group.at,
+    };
+    let give_ups = if is_whole { best.standing.give_ups } else { 0 };
+    Hypothesis {
+        standing: best.standing.at(number, give_ups),
+        group: Some(Group { at, ..group }),
+        before: best.before,
+        closed: best.closed,
     }
-    Ok(())
 }
 
-// Gives a group another place in these hypotheses, and answers whether it is present in one.
-fn move_group(hypotheses: &mut [Hypothesis], from: usize, to: usize) -> bool {
-    let mut is_present = false;
-    for hypothesis in hypotheses.iter_mut() {
-        if hypothesis.group == Some(from) {
-            hypothesis.group = Some(to);
-            is_present = true;
+// None is left.
+fn are_none(hypotheses: &[Hypothesis]) -> bool
+    ensures { IsTrue result → hypotheses.now ≡ [] }
+{
+    hypotheses.is_empty()
+}
+
+// The place of the hypothesis with the fewest files given up.
+fn fewest(hypotheses: &[Hypothesis]) -> Option<usize>
+    ensures some { IfSome result (λ place. HasFewest hypotheses.now place) }
+    ensures none { result ≡ None → hypotheses.now ≡ [] }
+{
+    if hypotheses.is_empty() {
+        return None;
+    }
+    let mut best = 0;
+    for place in 0..hypotheses.len() {
+        if hypotheses[place].standing.all_give_ups() < hypotheses[best].standing.all_give_ups() {
+            best = place;
         }
     }
-    is_present
+    Some(best)
 }

@@ -1,13 +1,15 @@
 //! The groups that hypotheses have closed.
 
 ghost use Rattle.std.specs.Prelude.{◌≡◌, IfOk, IfSome, OnOk, length};
-ghost use Rattle.a429_ldu.specs.Ldu.{IsLdu};
+ghost use Rattle.a429_profile.specs.Profile.{Contents};
+ghost use Rattle.a429_link.specs.Assignment.{Assigned};
 ghost use Rattle.a429_explain.specs.Plan.{ArePlans};
+ghost use Rattle.a429_search.specs.Frontier.{AreCovered};
 
-use crate::groups::Group;
-use crate::hypotheses::Hypothesis;
+use crate::block::copied;
+use crate::searching::Hypothesis;
 use a429_explain::{Plan, Role};
-use a429_ldu::{Ldu, LduFault};
+use a429_ldu::Ldu;
 use a429_profile::Profile;
 use std::alloc::{AllocError, Global};
 use std::collections::VecDeque;
@@ -63,10 +65,9 @@ impl<'a> Trail<'a> {
     pub(crate) fn close(
         &mut self,
         hypothesis: &Hypothesis,
-        groups: &[Group],
         heard: Option<usize>,
     ) -> Result<Option<usize>, AllocError> {
-        let Some(group) = group_of(hypothesis, groups) else {
+        let Some(group) = &hypothesis.group else {
             return Ok(hypothesis.closed);
         };
         let Some(unit) = copied(self.alloc, self.profile, &group.unit)? else {
@@ -83,23 +84,39 @@ impl<'a> Trail<'a> {
         Ok(Some(place))
     }
 
-    /// Leaves out the groups that none of these hypotheses needs, once there are many. The places of the others change, and
+    /// The same hypotheses; once there are many groups, those that none of them needs are left out. The places of the others change, and
     /// with them those in the hypotheses.
-    pub(crate) fn leave_out(&mut self, hypotheses: &mut [Hypothesis]) -> Result<(), AllocError> {
+    pub(crate) fn leave_out(
+        &mut self,
+        hypotheses: Vec<Hypothesis>,
+    ) -> Result<Vec<Hypothesis>, AllocError>
+        ensures { IfOk result (λ same. (p : Contents) (t : Assigned) → AreCovered p hypotheses.items t → AreCovered p same.items t) }
+    {
         if self.closed.len() < self.most {
-            return Ok(());
+            return Ok(hypotheses);
         }
-        let places = self.new_places(hypotheses)?;
+        let places = self.new_places(&hypotheses)?;
+        self.keep_placed(&places)?;
+        let mut moved = Vec::new(self.alloc);
+        for hypothesis in hypotheses.into_iter() {
+            let closed = place_in(&places, hypothesis.closed);
+            moved.push(Hypothesis {
+                closed,
+                ..hypothesis
+            })?;
+        }
+        Ok(moved)
+    }
+
+    // Leaves out the groups that have no new place.
+    fn keep_placed(&mut self, places: &[Option<usize>]) -> Result<(), AllocError> {
         let closed = mem::replace(&mut self.closed, Vec::new(self.alloc));
         for (place, group) in closed.into_iter().enumerate() {
-            if place_in(&places, Some(place)).is_some() {
+            if place_in(places, Some(place)).is_some() {
                 let mut kept = group;
-                kept.before = place_in(&places, kept.before);
+                kept.before = place_in(places, kept.before);
                 self.closed.push(kept)?;
             }
-        }
-        for hypothesis in hypotheses.iter_mut() {
-            hypothesis.closed = place_in(&places, hypothesis.closed);
         }
         self.most = self
             .closed
@@ -199,14 +216,6 @@ fn place_in(places: &[Option<usize>], place: Option<usize>) -> Option<usize> {
     }
 }
 
-/// The present group of a hypothesis.
-pub(crate) fn group_of<'a>(hypothesis: &Hypothesis, groups: &'a [Group]) -> Option<&'a Group> {
-    match hypothesis.group {
-        Some(place) => groups.get(place),
-        None => None,
-    }
-}
-
 // Puts the plan of a closed group before those of the groups after it.
 fn put_plan(
     alloc: Global,
@@ -225,24 +234,6 @@ fn put_plan(
         })?;
     }
     Ok(())
-}
-
-// The same link data unit once more: it is one of the profile.
-fn copied(alloc: Global, profile: &Profile, unit: &Ldu) -> Result<Option<Ldu>, AllocError>
-    ensures { IfOk result (λ found. IfSome found (λ u. IsLdu profile.now u)) }
-{
-    match Ldu::new(
-        alloc,
-        profile,
-        unit.gfi(),
-        unit.flags(),
-        unit.check(),
-        unit.words(),
-    ) {
-        Ok(unit) => Ok(Some(unit)),
-        Err(LduFault::OutOfMemory) => Err(AllocError),
-        Err(_) => Ok(None),
-    }
 }
 
 /// The roles of the entries, with the acknowledgements that the source hears, their entries last first.

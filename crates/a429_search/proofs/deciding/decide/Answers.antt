@@ -2,16 +2,19 @@ use Rattle.std.proofs.Common.{List, length, slice_get, take, Option, Ok, IfSome,
 use Rattle.std.proofs.lemmas.List.{take-map}
 use Rattle.a429_link.specs.declared.seen.Seen.{Seen}
 use Rattle.a429_cert.specs.Explained.{items_of, seen_of}
+use Rattle.a429_cert.proofs.ExplainedFacts.{in_some_run}
 use Rattle.a429_explain.specs.declared.verdict.Verdict.{Verdict}
 use Rattle.a429_explain.specs.Verdict.{IsFirst, IsImpossible, IsSoundVerdict}
 use Rattle.a429_explain.specs.Walk.{AreAllowedUpTo}
 use Rattle.a429_search.specs.declared.contradiction.Contradiction.{Contradiction}
-use Rattle.a429_search.specs.Contradiction.{ContradictsAt, HasNoContradiction, HasNoRun, IsFirstContradiction}
+use Rattle.a429_search.specs.declared.deciding.Judged.{Judged}
+use Rattle.a429_search.specs.Contradiction.{ContradictsAt, HasNoContradiction}
+use Rattle.a429_search.specs.Deciding.{IsJudged, IsNoRun}
 use Rattle.a429_search.proofs.DecidingFacts.{allowed_first, at_least, explained_none, first_by, found_first, first_of_refused, impossible_by, no_reason_at_all, none_first}
 use Rattle.a429_search.proofs.deciding.decide.Goals as goal
 
-pub contradiction-requires : goal.contradiction-requires
-contradiction-requires c =
+pub earlier-requires : goal.earlier-requires
+earlier-requires c =
     let p = c.args.profile.now in
     let items = items_of c.args.entries.now in
     let n = c.in-Ok-Impossible.entry in
@@ -32,14 +35,11 @@ returns-in-Ok-Some-clause-impossible c =
     let es = c.args.entries.now in
     let items = items_of es in
     let n = c.in-Ok-Impossible.entry in
-    let found = c.in-Ok-Some.earlier in
+    let found = c.in-Ok-Some.field-0-0 in
+    let refused = subst (λ (v : Verdict). IsFirst p items v) c.in-Ok-Impossible.field-0-is c.in-Ok-Impossible.ensures.first in
     let is = subst (λ (v : Verdict). IsImpossible p items v) c.in-Ok-Impossible.field-0-is c.in-Ok-Impossible.ensures.impossible in
-    let first = subst (λ (o : Option Contradiction). IfSome o (IsFirstContradiction p (items_of (take n es)))) c.in-Ok-Some.field-0-is c.in-Ok-Some.ensures.first in
-    let none = subst (λ (o : Option Contradiction). IfSome o (λ d. HasNoRun p (items_of (take n es)) d.entry)) c.in-Ok-Some.field-0-is c.in-Ok-Some.ensures.impossible in
-    impossible_by p items n found
-    (found_first p items n found (omega (arith, is.0))
-    (subst (λ (xs : List Seen). IsFirstContradiction p xs found) (sym (take-map seen_of n es)) first)
-    (subst (λ (xs : List Seen). HasNoRun p xs found.entry) (sym (take-map seen_of n es)) none))
+    let none = subst (λ (o : Option Contradiction). IfSome o (IsNoRun p (items_of (take n es)))) c.in-Ok-Some.field-0-is c.in-Ok-Some.ensures.some in
+    impossible_by p items n found refused.before (found_first p items n found (omega (arith, is.0)) (subst (λ (xs : List Seen). IsNoRun p xs found) (sym (take-map seen_of n es)) none))
 
 pub returns-in-Ok-Some-clause-first : goal.returns-in-Ok-Some-clause-first
 returns-in-Ok-Some-clause-first c =
@@ -47,15 +47,11 @@ returns-in-Ok-Some-clause-first c =
     let es = c.args.entries.now in
     let items = items_of es in
     let n = c.in-Ok-Impossible.entry in
-    let found = c.in-Ok-Some.earlier in
+    let found = c.in-Ok-Some.field-0-0 in
     let refused = subst (λ (v : Verdict). IsFirst p items v) c.in-Ok-Impossible.field-0-is c.in-Ok-Impossible.ensures.first in
     let is = subst (λ (v : Verdict). IsImpossible p items v) c.in-Ok-Impossible.field-0-is c.in-Ok-Impossible.ensures.impossible in
-    let first = subst (λ (o : Option Contradiction). IfSome o (IsFirstContradiction p (items_of (take n es)))) c.in-Ok-Some.field-0-is c.in-Ok-Some.ensures.first in
-    let none = subst (λ (o : Option Contradiction). IfSome o (λ d. HasNoRun p (items_of (take n es)) d.entry)) c.in-Ok-Some.field-0-is c.in-Ok-Some.ensures.impossible in
-    first_by p items n found refused.before
-    (found_first p items n found (omega (arith, is.0))
-    (subst (λ (xs : List Seen). IsFirstContradiction p xs found) (sym (take-map seen_of n es)) first)
-    (subst (λ (xs : List Seen). HasNoRun p xs found.entry) (sym (take-map seen_of n es)) none))
+    let none = subst (λ (o : Option Contradiction). IfSome o (IsNoRun p (items_of (take n es)))) c.in-Ok-Some.field-0-is c.in-Ok-Some.ensures.some in
+    first_by p items n found refused.before (found_first p items n found (omega (arith, is.0)) (subst (λ (xs : List Seen). IsNoRun p xs found) (sym (take-map seen_of n es)) none))
 
 pub returns-in-Ok-None-clause-impossible : goal.returns-in-Ok-None-clause-impossible
 returns-in-Ok-None-clause-impossible c =
@@ -77,23 +73,34 @@ returns-in-Ok-None-clause-first c =
     let none = c.in-Ok-None.ensures.none (ap (λ (o : Option Contradiction). Ok o) c.in-Ok-None.field-0-is) in
     at_least p items n refused.before (none_first p items n (omega (arith, is.0)) (subst (λ (xs : List Seen). HasNoContradiction p xs (length xs)) (sym (take-map seen_of n es)) none))
 
-pub returns-in-Ok-Some-found-clause-first : goal.returns-in-Ok-Some-found-clause-first
-returns-in-Ok-Some-found-clause-first c =
-    let p = c.args.profile.now in
-    let items = items_of c.args.entries.now in
-    let doubt = subst (λ (v : Verdict). IsFirst p items v) c.in-Ok-Unexplained.field-0-is c.in-Ok-Unexplained.ensures.first in
-    no_reason_at_all p items (doubt.0, c.in-Ok-None-contradiction.ensures.none (ap (λ (o : Option Contradiction). Ok o) c.in-Ok-None-contradiction.field-0-is))
+pub returns-in-Ok-clause-some_run : goal.returns-in-Ok-clause-some_run
+returns-in-Ok-clause-some_run c =
+    in_some_run c.args.profile.now c.in-Ok.found.certificate (items_of c.args.entries.now) c.in-Ok.found.files c.in-Ok.ensures.explained
 
-pub returns-in-Ok-Some-found-clause-of_check : goal.returns-in-Ok-Some-found-clause-of_check
-returns-in-Ok-Some-found-clause-of_check c =
+pub returns-in-Ok-clause-of_check : goal.returns-in-Ok-clause-of_check
+returns-in-Ok-clause-of_check c =
     inr (record { entry = c.in-Ok-Unexplained.entry; doubt = c.in-Ok-Unexplained.doubt; is = subst (λ (v : Verdict). IsFirst c.args.profile.now (items_of c.args.entries.now) v) c.in-Ok-Unexplained.field-0-is c.in-Ok-Unexplained.ensures.first })
 
-pub returns-in-Ok-None-apart-clause-first : goal.returns-in-Ok-None-apart-clause-first
-returns-in-Ok-None-apart-clause-first c =
+pub returns-in-Ok-clause-first : goal.returns-in-Ok-clause-first
+returns-in-Ok-clause-first c =
     let p = c.args.profile.now in
     let items = items_of c.args.entries.now in
     let doubt = subst (λ (v : Verdict). IsFirst p items v) c.in-Ok-Unexplained.field-0-is c.in-Ok-Unexplained.ensures.first in
-    no_reason_at_all p items (doubt.0, c.in-Ok-None-contradiction.ensures.none (ap (λ (o : Option Contradiction). Ok o) c.in-Ok-None-contradiction.field-0-is))
+    let none = subst (λ (j : Judged). IsJudged p items j) c.in-Ok-Guessed.field-0-is c.in-Ok-Guessed.ensures in
+    no_reason_at_all p items (doubt.0, none.1)
 
-pub returns-in-Ok-None-apart-clause-impossible : goal.returns-in-Ok-None-apart-clause-impossible
-returns-in-Ok-None-apart-clause-impossible c = tt
+pub returns-in-Err-NotReplayed-clause-first : goal.returns-in-Err-NotReplayed-clause-first
+returns-in-Err-NotReplayed-clause-first c =
+    let p = c.args.profile.now in
+    let items = items_of c.args.entries.now in
+    let doubt = subst (λ (v : Verdict). IsFirst p items v) c.in-Ok-Unexplained.field-0-is c.in-Ok-Unexplained.ensures.first in
+    let none = subst (λ (j : Judged). IsJudged p items j) c.in-Ok-Guessed.field-0-is c.in-Ok-Guessed.ensures in
+    no_reason_at_all p items (doubt.0, none.1)
+
+pub returns-in-Ok-Nothing-clause-first : goal.returns-in-Ok-Nothing-clause-first
+returns-in-Ok-Nothing-clause-first c =
+    let p = c.args.profile.now in
+    let items = items_of c.args.entries.now in
+    let doubt = subst (λ (v : Verdict). IsFirst p items v) c.in-Ok-Unexplained.field-0-is c.in-Ok-Unexplained.ensures.first in
+    let none = subst (λ (j : Judged). IsJudged p items j) c.in-Ok-Nothing.field-0-is c.in-Ok-Nothing.ensures in
+    no_reason_at_all p items (doubt.0, none)

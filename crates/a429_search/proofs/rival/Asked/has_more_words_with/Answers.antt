@@ -1,5 +1,5 @@
 use Rattle.std.proofs.Common.{arith}
-use Rattle.a429_search.proofs.ApartFacts.{no_part}
+use Rattle.a429_search.proofs.RivalFacts.{no_part}
 use Rattle.a429_search.proofs.RivalFacts.{other_whole, ours_whole}
 use Rattle.a429_search.proofs.rival.Asked.has_more_words_with.Goals as goal
 

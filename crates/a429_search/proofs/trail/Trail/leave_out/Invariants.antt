@@ -1,0 +1,8 @@
+use Rattle.std.proofs.Common.{◌++◌}
+use Rattle.a429_profile.specs.Profile.{Contents}
+use Rattle.a429_link.specs.Assignment.{Assigned}
+use Rattle.a429_search.specs.Frontier.{AreCovered}
+use Rattle.a429_search.proofs.trail.Trail.leave_out.Given as goal
+
+abbrev pub invariant-loop-hypothesis : goal.invariant-loop-hypothesis
+invariant-loop-hypothesis l = (p : Contents) (t : Assigned) → AreCovered p l.fn.hypotheses.items t → AreCovered p (l.moved.items ++ l.hypothesis-iterator.rest.items) t
