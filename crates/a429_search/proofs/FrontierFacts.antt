@@ -8,11 +8,10 @@ use Rattle.a429_link.specs.Assignment.{Assigned, AreAssigned, GivesUp, GoOnAssig
 use Rattle.a429_link.specs.Attempt.{Attempt, attempts}
 use Rattle.a429_link.specs.Number.{number_after}
 use Rattle.a429_link.specs.State.{IsNonEmpty}
-use Rattle.a429_search.specs.declared.groups.Group.{Group}
 use Rattle.a429_search.specs.declared.searching.Hypothesis.{Hypothesis}
 use Rattle.a429_search.specs.declared.standing.Standing.{Standing}
 use Rattle.a429_search.specs.Standing.{IsHeard, IsInRange, MayGoOn, MayStand, MayStandLater, Stands, StandsLater}
-use Rattle.a429_search.specs.Frontier.{AreCovered, CanReach, CoverNext, Covers, FitsGroup, IsStart}
+use Rattle.a429_search.specs.Frontier.{AreCovered, Covers, FitsGroup}
 use Rattle.a429_search.proofs.StandingFacts.{further}
 
 pub in_range : (p : Contents) (t : Assigned) → IsSound p t → IsInRange p.codes.first_ldu t.number t.give_ups
@@ -66,20 +65,19 @@ comes_next p h t t' acked covers (inr (inr (is, inr (d, some, f, l, e)))) =
     let n = number_after p.codes t.number t.unit in
     inr (is, λ heard at fits. inl (heard_later p n heard t' at (0 + d, omega (arith, some), further p.codes.first_ldu n n t'.number 0 d some refl f l, omega (arith, e))))
 
--- ---- at first
-
--- before any attempt the source is at the first number of some file
-pub start_covers : (p : Contents) (hyps : List Hypothesis) (before : Attempt) → IsStart hyps → CoverNext p (before ∷ []) hyps
-start_covers p hyps before (h, is, known, gave, since, group) = λ now ok t reach next.
-    let first : t.number.ldu ≡ p.codes.first_ldu = subst (λ (o : Option Assigned). IsNext p.codes o ok t) reach.0 next in
-    record {
-      place = 0;
-      hypothesis = h;
-      is = is;
-      covers = inr (subst (λ (o : Option UnitNumber). MayStand p.codes.first_ldu o h.standing.is_started h.standing t.number t.give_ups) (sym known) (first, omega (arith, gave, since)), subst (λ (o : Option Group). FitsGroup p o t.unit) (sym group) tt);
-    }
-
 -- ---- along the attempts
+
+-- attempts after one that was assigned to `last`, and acknowledged or not, can be assigned so that the last of them is assigned to `now`,
+-- and acknowledged or not
+abbrev pub CanReach : Contents → Option Assigned → Bool → List Attempt → Option Assigned → Bool → Type 0
+CanReach p last acked [] now ok = (now ≡ last) × (ok ≡ acked)
+CanReach p last acked (a ∷ more) now ok = (t : Assigned) × IsSound p t × IsNext p.codes last acked t × IsOf p (Some t) a × CanReach p (Some t) (is_some a.acked) more now ok
+
+-- whatever an attempt after all these may be assigned to is covered. The first of them is what was recorded
+-- before the first request
+abbrev pub CoverNext : Contents → List Attempt → List Hypothesis → Type 0
+CoverNext p [] hyps = ⊥
+CoverNext p (before ∷ done) hyps = (now : Option Assigned) (ok : Bool) (t : Assigned) → CanReach p None (is_some before.acked) done now ok → IsNext p.codes now ok t → AreCovered p hyps t
 
 -- the last of several attempts, and those before it
 record LastStep (p : Contents) (last : Option Assigned) (acked : Bool) (done : List Attempt) (a : Attempt) (now : Option Assigned) (ok : Bool) : Type 0 where

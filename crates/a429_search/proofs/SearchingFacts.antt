@@ -19,11 +19,11 @@ use Rattle.a429_search.specs.declared.groups.Group.{Group}
 use Rattle.a429_search.specs.declared.searching.Hypothesis.{Hypothesis}
 use Rattle.a429_search.specs.declared.standing.Standing.{Standing}
 use Rattle.a429_search.specs.declared.standing.Ways.{Ways}
-use Rattle.a429_search.specs.Frontier.{AreAt, AreCovered, AreKept, CarriesOn, CoverNext, Covers, FitsGroup, FitsNone, GoOnFrom, HasFewest, IsAmong, IsRefused}
+use Rattle.a429_search.specs.Frontier.{AreAt, AreCovered, AreKept, CarriesOn, Covers, FitsGroup, FitsNone, GoOnFrom, HasFewest, IsAmong, IsRefused}
 use Rattle.a429_search.specs.Contradiction.{HasNoRun}
 use Rattle.a429_search.specs.Recorded.{IsAttemptFrom, MayBeOf, MayBeTo, number_of}
 use Rattle.a429_search.specs.Standing.{Begins, IsAt, IsHeard, IsNamed, LeaveNothingOut, Stands, StandsLater, all_give_ups}
-use Rattle.a429_search.proofs.FrontierFacts.{comes_next, cover_more, in_range, not_assignable}
+use Rattle.a429_search.proofs.FrontierFacts.{CoverNext, comes_next, cover_more, in_range, not_assignable}
 use Rattle.a429_search.proofs.RecordedFacts.{may_be_to, there}
 use Rattle.a429_search.proofs.StandingFacts.{at_stands, fewer_later, fewer_stands}
 
@@ -32,16 +32,6 @@ use Rattle.a429_search.proofs.StandingFacts.{at_stands, fewer_later, fewer_stand
 some_is : (a b : Hypothesis) → Some a ≡ Some b → a ≡ b
 some_is a b e = cc e
 
-get_kept : {X : Type 0} (xs : List X) (y x : X) (k : ℕ) → slice_get xs k ≡ Some x → slice_get (xs ++ y ∷ []) k ≡ Some x
-get_kept [] y x zero h = absurd (cc h)
-get_kept [] y x (suc k) h = absurd (cc h)
-get_kept (z ∷ xs) y x zero h = h
-get_kept (z ∷ xs) y x (suc k) h = get_kept xs y x k h
-
-get_new : {X : Type 0} (xs : List X) (y : X) → slice_get (xs ++ y ∷ []) (length xs) ≡ Some y
-get_new [] y = refl
-get_new (x ∷ xs) y = get_new xs y
-
 get_either : {X : Type 0} (xs : List X) (y x : X) (k : ℕ) → slice_get (xs ++ y ∷ []) k ≡ Some x → (slice_get xs k ≡ Some x) ⊎ (x ≡ y)
 get_either [] y x zero h = inr (sym (cc h))
 get_either [] y x (suc k) h = absurd (cc h)
@@ -49,12 +39,6 @@ get_either (z ∷ xs) y x zero h = inl h
 get_either (z ∷ xs) y x (suc k) h = get_either xs y x k h
 
 module _ (old new : List Hypothesis) (h : Hypothesis) (is : new ≡ old ++ h ∷ []) where
-  pub kept_pushed : AreKept old new
-  kept_pushed k x at = subst (λ (l : List Hypothesis). slice_get l k ≡ Some x) (sym is) (get_kept old h x k at)
-
-  pub covered_pushed : (p : Contents) (t : Assigned) → Covers p h t → AreCovered p new t
-  covered_pushed p t covers = record { place = length old; hypothesis = h; is = subst (λ (l : List Hypothesis). slice_get l (length old) ≡ Some h) (sym is) (get_new old h); covers = covers }
-
   pub at_pushed : (start : Option UnitNumber) → IfSome start (λ n. IsAt n h.standing) → AreAt start old → AreAt start new
   at_pushed None here all = tt
   at_pushed (Some n) here all = λ k x at. elim (get_either old h x k (subst (λ (l : List Hypothesis). slice_get l k ≡ Some x) is at)) [
@@ -62,18 +46,10 @@ module _ (old new : List Hypothesis) (h : Hypothesis) (is : new ≡ old ++ h ∷
     | inr now ↦ subst (λ (y : Hypothesis). IsAt n y.standing) (sym now) here
   ]
 
-pub kept_same : (xs : List Hypothesis) → AreKept xs xs
-kept_same xs k h at = at
-
 pub covered_kept : (p : Contents) (old new : List Hypothesis) (t : Assigned) → AreKept old new → AreCovered p old t → AreCovered p new t
 covered_kept p old new t kept c = record { place = c.place; hypothesis = c.hypothesis; is = kept c.place c.hypothesis c.is; covers = c.covers }
 
 -- ---- one way of a hypothesis
-
--- where the source stands by the way, or at a later file
-pub among_covers : (p : Contents) (h : Hypothesis) (j : Standing) (t : Assigned) → h.standing ≡ j → FitsGroup p h.group t.unit → IsAmong p.codes.first_ldu j t → Covers p h t
-among_covers p h j t is fits (inl stands) = inr (subst (λ (s : Standing). Stands p.codes.first_ldu s t.number t.give_ups) (sym is) stands, fits)
-among_covers p h j t is fits (inr later) = inl (subst (λ (s : Standing). StandsLater p.codes.first_ldu s t.number t.give_ups) (sym is) later)
 
 -- the standing of the way is at the number of the start word
 pub at_way : {X : Type 0} (o : Option X) (x : X) (f : X → Standing) (start : Option UnitNumber) → o ≡ Some x → IfSome start (λ n. IfSome o (λ y. IsAt n (f y))) → IfSome start (λ n. IsAt n (f x))

@@ -1,11 +1,10 @@
 -- What a source may have done up to an attempt, as hypotheses that are carried from one attempt to the next (profile).
-use Rattle.std.specs.Prelude.{◌≡◌, ◌<◌, ◌≤◌, ◌⊎◌, ℕ, Bool, true, List, [], ◌∷◌, Option, Some, None, IfSome, is_some, length, slice_get}
+use Rattle.std.specs.Prelude.{◌≡◌, ◌<◌, ◌≤◌, ◌⊎◌, ℕ, Bool, true, List, Option, Some, None, IfSome, is_some, length, slice_get}
 use Rattle.a429_profile.specs.Profile.{Contents}
 use Rattle.a429_ldu.specs.Ldu.{LduValue}
-use Rattle.a429_link.specs.Assignment.{Assigned, IsNext, IsOf, IsSound}
+use Rattle.a429_link.specs.Assignment.{Assigned, IsNext, IsSound}
 use Rattle.a429_link.specs.declared.number.UnitNumber.{UnitNumber}
 use Rattle.a429_link.specs.declared.seen.Seen.{Seen}
-use Rattle.a429_link.specs.Attempt as link
 use Rattle.a429_explain.specs.Decoded.{HeardValue}
 use Rattle.a429_explain.specs.Guess.{IsGuess}
 use Rattle.a429_search.specs.declared.attempts.Attempt.{Attempt}
@@ -71,20 +70,6 @@ HasFewest hyps place = (best : Hypothesis) × (slice_get hyps place ≡ Some bes
 -- the last attempt of the first `to` items, whose request is item `from`, fits none of the hypotheses
 abbrev pub IsRefused : Contents → List Seen → List Hypothesis → ℕ → ℕ → Type 0
 IsRefused p items hyps from to = (a : Attempt) × IsAttemptFrom p items from to a × FitsNone p hyps a
-
--- ---- along the attempts
-
--- attempts after one that was assigned to `last`, and acknowledged or not, can be assigned so that the last of them is assigned to `now`,
--- and acknowledged or not
-abbrev pub CanReach : Contents → Option Assigned → Bool → List link.Attempt → Option Assigned → Bool → Type 0
-CanReach p last acked [] now ok = (now ≡ last) × (ok ≡ acked)
-CanReach p last acked (a ∷ more) now ok = (t : Assigned) × IsSound p t × IsNext p.codes last acked t × IsOf p (Some t) a × CanReach p (Some t) (is_some a.acked) more now ok
-
--- whatever an attempt after all these may be assigned to is covered. The first of them is what was recorded
--- before the first request
-abbrev pub CoverNext : Contents → List link.Attempt → List Hypothesis → Type 0
-CoverNext p [] hyps = ⊥
-CoverNext p (before ∷ done) hyps = (now : Option Assigned) (ok : Bool) (t : Assigned) → CanReach p None (is_some before.acked) done now ok → IsNext p.codes now ok t → AreCovered p hyps t
 
 -- what a search answers: what is guessed of the run, or an entry with which no run's words begin
 abbrev pub IsFound : HeardValue → Found → Type 0

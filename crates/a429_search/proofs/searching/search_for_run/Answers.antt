@@ -1,7 +1,8 @@
 use Rattle.std.proofs.Common.{ap, arith, subst, sym}
 use Rattle.std.proofs.Common.{take}
 use Rattle.a429_link.specs.Attempt.{attempts}
-use Rattle.a429_search.specs.Frontier.{CoverNext, FitsNone}
+use Rattle.a429_search.specs.Frontier.{FitsNone}
+use Rattle.a429_search.proofs.FrontierFacts.{CoverNext}
 use Rattle.a429_search.proofs.SearchingFacts.{covers_on, is_refused, no_run_at}
 use Rattle.a429_search.proofs.searching.search_for_run.Goals as goal
 

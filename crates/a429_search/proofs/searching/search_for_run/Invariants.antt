@@ -1,6 +1,6 @@
 use Rattle.std.proofs.Common.{◌≡◌, ◌-◌, ◌≤◌, length, take, true}
 use Rattle.a429_link.specs.Attempt.{attempts}
-use Rattle.a429_search.specs.Frontier.{CoverNext}
+use Rattle.a429_search.proofs.FrontierFacts.{CoverNext}
 use Rattle.a429_search.proofs.searching.search_for_run.Given as goal
 
 abbrev pub invariant-attempts : goal.invariant-attempts
