@@ -14,7 +14,7 @@ use Rattle.a429_explain.specs.declared.planner.Planner.{Planner}
 use Rattle.a429_explain.specs.declared.stop.Stop.{Stop}
 use Rattle.a429_explain.specs.declared.stop.Stop.TheVariants.{Unexplained, OutOfMemory}
 use Rattle.a429_explain.specs.declared.verdict.Doubt.{Doubt}
-use Rattle.a429_explain.specs.declared.verdict.Doubt.TheVariants.{NeverWhole, NotOneBlock, NotReplayed}
+use Rattle.a429_explain.specs.declared.verdict.Doubt.TheVariants.{NeverWhole, NotOneBlock, NotReplayed, OutOfSteps}
 use Rattle.a429_explain.specs.Block.{IsMatchedUnit, IsDoubtIn, IsStopIn, HasCrossed}
 use Rattle.a429_explain.specs.Decoded.{HeardValue, sight_at}
 use Rattle.a429_explain.specs.Groups.{group_from, group_start}
@@ -126,6 +126,7 @@ planned_stop h at s stop near k planned = by stop k.is
     by : (o : Stop) → IsStopIn (decoded h.profile h.items) (request_at r.roles at k.wants) (place_at_group h.profile.codes r.roles (group_from r.roles at) s.place) o → IsFirstStop h.profile h.items o
     by OutOfMemory is = tt
     by (Unexplained i NotReplayed) is = absurd is
+    by (Unexplained i OutOfSteps) is = absurd is
     by (Unexplained i NeverWhole) is = record { plans = planned.plans; are = doubted i NeverWhole is }
     by (Unexplained i NotOneBlock) is = record { plans = planned.plans; are = doubted i NotOneBlock is }
 

@@ -1,7 +1,7 @@
 -- Verdicts that are given before a search.
 use Rattle.std.proofs.lemmas.Bool.{cases_order}
-use Rattle.std.proofs.lemmas.Option.{slice_get_past}
-use Rattle.std.proofs.Common.{◌≡◌, ◌⊎◌, ℕ, zero, suc, ◌+◌, ◌<◌, ◌≤◌, List, [], ◌∷◌, ◌++◌, length, take, drop, Option, Some, None, slice_get, refl, sym, ap, ◌∙◌, subst, inl, inr, arith}
+use Rattle.std.proofs.lemmas.Option.{slice_get_past, slice_get_within}
+use Rattle.std.proofs.Common.{◌≡◌, ◌⊎◌, ℕ, zero, suc, ◌+◌, ◌<◌, ◌≤◌, List, [], ◌∷◌, ◌++◌, length, take, drop, Option, Some, None, IfSome, unwrap_or, slice_get, refl, sym, ap, ◌∙◌, subst, inl, inr, append-nil, arith}
 use Rattle.a429_profile.specs.Profile.{Contents}
 use Rattle.a429_profile.specs.declared.codes.Codes.{Codes}
 use Rattle.a429_ldu.specs.declared.forms.Form.TheVariants.{Rts, Cts, Ack, Nak, Sot, Part, Eot}
@@ -16,16 +16,21 @@ use Rattle.a429_link.specs.Observer.{AllowsNext, at_first, observed}
 use Rattle.a429_link.specs.Run.{BeginsARun}
 use Rattle.a429_link.specs.WholeBlock.{ComesNext, EndsBad, IsHalfNext}
 use Rattle.a429_record.specs.declared.entry.Entry.{Entry}
-use Rattle.a429_cert.specs.Explained.{IsExplained, items_of}
+use Rattle.a429_cert.specs.Explained.{AreInSomeRun, IsExplained, items_of}
 use Rattle.a429_cert.proofs.ExplainedFacts.{in_some_run}
 use Rattle.a429_explain.specs.declared.verdict.Reason.{Reason}
 use Rattle.a429_explain.specs.declared.verdict.Reason.TheVariants.{NoForm, NotGranted, WrongAnswer, BadBlock, WrongNumber, OtherBlock, NoRun}
-use Rattle.a429_explain.specs.declared.verdict.Verdict.TheVariants.{Impossible}
+use Rattle.a429_explain.specs.declared.verdict.Doubt.{Doubt}
+use Rattle.a429_explain.specs.declared.verdict.Doubt.TheVariants.{NeverWhole, NotOneBlock, NotReplayed, OutOfSteps}
+use Rattle.a429_explain.specs.declared.verdict.Verdict.TheVariants.{Impossible, Unexplained}
+use Rattle.a429_explain.specs.Decoded.{sight_at}
+use Rattle.a429_explain.specs.Stop.{IsDoubtAt, IsDoubtOf}
+use Rattle.a429_explain.specs.Verdict.{IsFirst}
 use Rattle.a429_explain.specs.Walk.{AreAllowedUpTo, FitsAt, FitsSight}
 use Rattle.a429_search.specs.declared.contradiction.Contradiction.{Contradiction}
 use Rattle.a429_search.specs.Contradiction.{ContradictsAt, HasNoContradiction, HasNoneBefore, HasNoRun}
 use Rattle.a429_search.proofs.ContradictionFacts.{none_before}
-use Rattle.a429_search.specs.Deciding.{HasNoReason, IsFirstReasonAt, IsImpossibleBy, IsNoRun, IsReasonAt}
+use Rattle.a429_search.specs.Deciding.{HasDoubt, HasNoReason, IsFirstReasonAt, IsImpossibleBy, IsNoRun, IsReasonAt}
 
 -- ---- the first words of a recording
 
@@ -251,3 +256,29 @@ impossible_by p items n c may h = (h.inside, how h.how, h.no_run)
 
 pub first_by : (p : Contents) (items : List Seen) (n : ℕ) (c : Contradiction) → AreAllowedUpTo p items n → IsFound p items n c → (k : ℕ) (r : Reason) → IsReasonAt p items k r → c.entry ≤ k
 first_by p items n c may h = at_least p items c.entry (less_allowed p items n c.entry (omega (arith, h.within)) may) h.before
+
+-- ---- doubts
+
+pub doubt_of_check : (p : Contents) (items : List Seen) (i : ℕ) (d : Doubt) → IsFirst p items (Unexplained i d) → HasDoubt p items
+doubt_of_check p items i d is = record { entry = i; doubt = d; is = is }
+
+word_of_doubt : (c : Codes) (o : Option Seen) (d : Doubt) → IsDoubtOf (sight_at c o) d → (x : Seen) × (o ≡ Some x)
+word_of_doubt c None d h = absurd h
+word_of_doubt c (Some x) d h = (x, refl)
+
+-- a doubt is at an item
+doubt_inside : (c : Codes) (items : List Seen) (i : ℕ) (d : Doubt) → IsDoubtAt c items i d → i < length items
+doubt_inside c items i NotReplayed h = h
+doubt_inside c items i OutOfSteps h = h
+doubt_inside c items i NeverWhole h = let w = word_of_doubt c (slice_get items i) NeverWhole h in slice_get_within items i w.0 w.1
+doubt_inside c items i NotOneBlock h = let w = word_of_doubt c (slice_get items i) NotOneBlock h in slice_get_within items i w.0 w.1
+
+-- and so is the entry at which a search was cut short, or else the one that `check` doubts
+pub ended_inside : (c : Codes) (items : List Seen) (at : Option ℕ) (entry : ℕ) (d : Doubt) {end : ℕ} → IfSome at (λ i. i < length items) → IsDoubtAt c items entry d → end ≡ unwrap_or at entry → end < length items
+ended_inside c items None entry d inside doubt is = subst (λ k. k < length items) (sym is) (doubt_inside c items entry d doubt)
+ended_inside c items (Some i) entry d inside doubt is = subst (λ k. k < length items) (sym is) inside
+
+-- ---- a run that is written down
+
+pub some_begins : (p : Contents) (items : List Seen) (files : List FileBytes) → AreInSomeRun p items files → BeginsARun p items
+some_begins p items files r = record { first = r.first; byte = r.byte; steps = r.steps; run = r.run; more = []; records = r.recorded ∙ sym (append-nil items) }

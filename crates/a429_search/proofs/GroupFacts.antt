@@ -17,7 +17,7 @@ gfi_is u None h = tt
 gfi_is u (Some s) h = h
 
 -- what is known of one of two is known of the first that is there
-first_of : {X : Type 0} (Holds : X → Type 0) (x y : Option X) → IfSome x Holds → IfSome y Holds → IfSome (option_or x y) Holds
+pub first_of : {X : Type 0} (Holds : X → Type 0) (x y : Option X) → IfSome x Holds → IfSome y Holds → IfSome (option_or x y) Holds
 first_of Holds None y h k = k
 first_of Holds (Some v) y h k = h
 

@@ -1,10 +1,11 @@
 -- An attempt that another attempt is held against.
-use Rattle.std.proofs.Common.{◌≡◌, ◌⊎◌, ◌↔◌, not, IsTrue, ℕ, zero, suc, ◌+◌, ◌<◌, Bool, true, false, cond, eqb, eqb-true, List, [], ◌∷◌, ◌++◌, length, take, Option, Some, None, slice_get, refl, sym, ap, ◌∙◌, subst, inl, inr, append_assoc, append-nil, arith}
+use Rattle.std.proofs.Common.{◌≡◌, ◌⊎◌, ◌↔◌, not, IsTrue, ℕ, zero, suc, ◌+◌, ◌<◌, ◌≤◌, Bool, true, false, cond, eqb, eqb-true, List, [], ◌∷◌, ◌++◌, length, take, Option, Some, None, slice_get, refl, sym, ap, ◌∙◌, subst, inl, inr, append_assoc, append-nil, arith}
 use Rattle.std.proofs.lemmas.Bool.{and_parts, cases_order}
 use Rattle.std.proofs.lemmas.Option.{slice_get_within}
 use Rattle.a429_word.specs.declared.bus.Bus.{Bus}
 use Rattle.a429_word.specs.declared.bus.Bus.TheVariants as bus
 use Rattle.a429_profile.specs.Profile.{Contents}
+use Rattle.a429_profile.specs.declared.codes.Codes.{Codes}
 use Rattle.a429_ldu.specs.declared.forms.Form.{Form}
 use Rattle.a429_ldu.specs.declared.forms.Form.TheVariants.{Rts, Cts, Ack, Nak, Sot, Part, Eot}
 use Rattle.a429_ldu.specs.Form.{form_of}
@@ -14,6 +15,8 @@ use Rattle.a429_link.specs.Attempt.{Attempt, BeginsUnder, HasNumber, IsStartOf, 
 use Rattle.a429_link.specs.Group.{AcksForm, AcksOnly}
 use Rattle.a429_link.specs.Number.{is_number}
 use Rattle.a429_link.specs.Run.{IsSubsequenceOf}
+use Rattle.a429_link.specs.WholeBlock.{data_words}
+use Rattle.a429_link.proofs.AllData.{data-append}
 use Rattle.a429_link.proofs.Contradictions.{latest_push, next_item}
 use Rattle.a429_link.proofs.NumberFacts.{number_from}
 use Rattle.a429_link.proofs.NumberKept.{sub_all}
@@ -25,7 +28,7 @@ use Rattle.a429_search.specs.Rival.{AreMoreWords, Asked, Attempts, IsRival, IsRi
 
 -- ---- two attempts
 
--- one of as many words as are asked for is the whole block
+-- one of so many words is all of a list that has no more
 whole_apart : (xs ys : List ℕ) (n : ℕ) → length xs ≡ n → (IsSubsequenceOf ys xs → ⊥) → (zs : List ℕ) → IsSubsequenceOf xs zs → IsSubsequenceOf ys zs → n < length zs
 whole_apart xs ys n e other zs a b = elim (cases_order n (length zs)) [
   | inl same ↦ absurd (other (subst (IsSubsequenceOf ys) (sym (sub_all xs zs (e ∙ same) a)) b))
@@ -120,7 +123,7 @@ since_now p n items h = record { before = items; since = []; splits = sym (appen
 
 -- ---- one attempt more
 
-get_push : {X : Type 0} (xs : List X) (x y : X) (k : ℕ) → slice_get (xs ++ x ∷ []) k ≡ Some y → (slice_get xs k ≡ Some y) ⊎ (y ≡ x)
+pub get_push : {X : Type 0} (xs : List X) (x y : X) (k : ℕ) → slice_get (xs ++ x ∷ []) k ≡ Some y → (slice_get xs k ≡ Some y) ⊎ (y ≡ x)
 get_push [] x y zero h = inr (sym (cc h))
 get_push [] x y (suc k) h = absurd (cc h)
 get_push (z ∷ xs) x y zero h = inl h
@@ -286,7 +289,7 @@ keeps_next p items n i h t u at k is keeps =
 
 -- ---- the attempt that the last one is held against
 
-pub rival_at : (p : Contents) (items : List Seen) (t : Attempts) (r : Rival) → Keeps p items t → IsRival t r → IsRivalAt p items r
+pub rival_at : (p : Contents) (items : List Seen) (t : Attempts) (r : Rival) → Keeps p items t → IsRival p.codes t r → IsRivalAt p items r
 rival_at p items t r keeps h = by t.number keeps.since (keeps.named h.named)
   where
     by : (o : Option UnitNumber) → SinceIf p items o t.kept → IsNamed p t.last.attempt.words o → IsRivalAt p items r
@@ -313,14 +316,29 @@ rival_at p items t r keeps h = by t.number keeps.since (keeps.named h.named)
           count = h.rival.count ∙ ap (λ (a : Attempt). a.count) keeps.attempt;
           apart = elim h.rival.apart [
             | inl d ↦ inl d
-            | inr more ↦ inr (subst (λ (a : Attempt). AreMoreWords (latest p (s.before ++ one.xs)) a) keeps.attempt (subst (λ (a : Attempt). AreMoreWords a t.last.attempt) one.is more))
+            | inr more ↦ inr (subst (λ (a : Attempt). AreMoreWords p.codes (latest p (s.before ++ one.xs)) a) keeps.attempt (subst (λ (a : Attempt). AreMoreWords p.codes a t.last.attempt) one.is more))
           ];
         }
 
--- ---- two attempts
+-- ---- the data words of two attempts
 
-pub ours_whole : (a b : Attempt) → length a.words ≡ a.count → (IsSubsequenceOf b.words a.words → ⊥) → AreMoreWords a b
-ours_whole a b e other = λ zs ours others. whole_apart a.words b.words a.count e other zs ours others
+-- one of them has as many as a block of so many words
+pub ours_whole : (c : Codes) (a b : Attempt) (xs ys : List ℕ) → xs ≡ data_words c a.words → ys ≡ data_words c b.words → length xs + 2 ≡ a.count → (IsSubsequenceOf ys xs → ⊥) → AreMoreWords c a b
+ours_whole c a b xs ys ours others long other = λ zs has has_other.
+    let more = whole_apart xs ys (length xs) refl other zs (subst (λ (l : List ℕ). IsSubsequenceOf l zs) (sym ours) has) (subst (λ (l : List ℕ). IsSubsequenceOf l zs) (sym others) has_other) in
+    omega (arith, more, long)
 
-pub other_whole : (a b : Attempt) → a.count ≡ b.count → length b.words ≡ b.count → (IsSubsequenceOf a.words b.words → ⊥) → AreMoreWords a b
-other_whole a b same e other = λ zs ours others. subst (λ (n : ℕ). n < length zs) (sym same) (whole_apart b.words a.words b.count e other zs others ours)
+pub other_whole : (c : Codes) (a b : Attempt) (xs ys : List ℕ) → xs ≡ data_words c a.words → ys ≡ data_words c b.words → a.count ≡ b.count → length ys + 2 ≡ b.count → (IsSubsequenceOf xs ys → ⊥) → AreMoreWords c a b
+other_whole c a b xs ys ours others same long other = λ zs has has_other.
+    let more = whole_apart ys xs (length ys) refl other zs (subst (λ (l : List ℕ). IsSubsequenceOf l zs) (sym others) has_other) (subst (λ (l : List ℕ). IsSubsequenceOf l zs) (sym ours) has) in
+    omega (arith, more, same, long)
+
+-- those of the first words, and of one more
+pub data_more : (c : Codes) (words parts more : List ℕ) (k w : ℕ) → slice_get words k ≡ Some w → data_words c (w ∷ []) ≡ more → parts ≡ data_words c (take k words) → parts ++ more ≡ data_words c (take (k + 1) words)
+data_more c words parts more k w at is so =
+    let one : k + 1 ≡ suc k = omega arith in
+    ap (λ (l : List ℕ). l ++ more) so
+    ∙ ap (λ (l : List ℕ). data_words c (take k words) ++ l) (sym is)
+    ∙ sym (data-append c (take k words) (w ∷ []))
+    ∙ ap (data_words c) (sym (next_item k w words at))
+    ∙ ap (λ (n : ℕ). data_words c (take n words)) (sym one)

@@ -25,6 +25,7 @@ use Rattle.a429_search.specs.Recorded.{IsAttemptFrom, MayBeOf, MayBeTo, number_o
 use Rattle.a429_search.specs.Standing.{Begins, IsAt, IsHeard, IsNamed, LeaveNothingOut, Stands, StandsLater, all_give_ups}
 use Rattle.a429_search.proofs.FrontierFacts.{CoverNext, comes_next, cover_more, in_range, not_assignable}
 use Rattle.a429_search.proofs.RecordedFacts.{may_be_to, there}
+use Rattle.a429_search.proofs.RivalFacts.{get_push}
 use Rattle.a429_search.proofs.StandingFacts.{at_stands, fewer_later, fewer_stands}
 
 -- ---- one more hypothesis
@@ -32,16 +33,10 @@ use Rattle.a429_search.proofs.StandingFacts.{at_stands, fewer_later, fewer_stand
 some_is : (a b : Hypothesis) → Some a ≡ Some b → a ≡ b
 some_is a b e = cc e
 
-get_either : {X : Type 0} (xs : List X) (y x : X) (k : ℕ) → slice_get (xs ++ y ∷ []) k ≡ Some x → (slice_get xs k ≡ Some x) ⊎ (x ≡ y)
-get_either [] y x zero h = inr (sym (cc h))
-get_either [] y x (suc k) h = absurd (cc h)
-get_either (z ∷ xs) y x zero h = inl h
-get_either (z ∷ xs) y x (suc k) h = get_either xs y x k h
-
 module _ (old new : List Hypothesis) (h : Hypothesis) (is : new ≡ old ++ h ∷ []) where
   pub at_pushed : (start : Option UnitNumber) → IfSome start (λ n. IsAt n h.standing) → AreAt start old → AreAt start new
   at_pushed None here all = tt
-  at_pushed (Some n) here all = λ k x at. elim (get_either old h x k (subst (λ (l : List Hypothesis). slice_get l k ≡ Some x) is at)) [
+  at_pushed (Some n) here all = λ k x at. elim (get_push old h x k (subst (λ (l : List Hypothesis). slice_get l k ≡ Some x) is at)) [
     | inl was ↦ all k x was
     | inr now ↦ subst (λ (y : Hypothesis). IsAt n y.standing) (sym now) here
   ]

@@ -1,11 +1,9 @@
 -- How a source comes from one standing to the next.
 use Rattle.std.proofs.Common.{◌≡◌, ℕ, zero, suc, ◌+◌, ◌%◌, ◌≤◌, Bool, true, Option, Some, sym, ap, ◌∙◌, subst, arith}
 use Rattle.a429_link.specs.declared.number.UnitNumber.{UnitNumber}
+use Rattle.a429_link.proofs.NumberFacts.{number_from}
 use Rattle.a429_search.specs.declared.standing.Standing.{Standing}
 use Rattle.a429_search.specs.Standing.{IsAt, MayGoOn, MayStand, MayStandLater, Stands, StandsLater, past}
-
-number_is : (m : UnitNumber) (f l : ℕ) → m.file ≡ f → m.ldu ≡ l → m ≡ record { file = f; ldu = l }
-number_is m f l e h = ap (λ (x : ℕ). record { file = x; ldu = m.ldu }) e ∙ ap (λ (x : ℕ). record { file = f; ldu = x }) h
 
 -- so many files past one that is past another
 pub further : (first : ℕ) (n m m' : UnitNumber) (d e : ℕ) → 1 ≤ e → m ≡ past first n d → m'.file ≡ (m.file + e) % 256 → m'.ldu ≡ first → m' ≡ past first n (d + e)
@@ -13,11 +11,11 @@ further first n m m' d zero some is f l = absurd (omega (arith, some))
 further first n m m' zero (suc e) some is f l =
     let same : m.file ≡ n.file = ap (λ (x : UnitNumber). x.file) is in
     let sum : suc e ≡ 0 + suc e = omega arith in
-    subst (λ (k : ℕ). m' ≡ past first n k) sum (number_is m' ((n.file + suc e) % 256) first (omega (arith, f, same)) l)
+    subst (λ (k : ℕ). m' ≡ past first n k) sum (number_from m' (record { file = (n.file + suc e) % 256; ldu = first }) (omega (arith, f, same)) l)
 further first n m m' (suc d) (suc e) some is f l =
     let same : m.file ≡ (n.file + suc d) % 256 = ap (λ (x : UnitNumber). x.file) is in
     let sum : suc (d + suc e) ≡ suc d + suc e = omega arith in
-    subst (λ (k : ℕ). m' ≡ past first n k) sum (number_is m' ((n.file + suc (d + suc e)) % 256) first (omega (arith, f, same)) l)
+    subst (λ (k : ℕ). m' ≡ past first n k) sum (number_from m' (record { file = (n.file + suc (d + suc e)) % 256; ldu = first }) (omega (arith, f, same)) l)
 
 -- ---- an attempt with a start word
 

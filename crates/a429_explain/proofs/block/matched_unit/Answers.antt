@@ -3,7 +3,7 @@ use Rattle.a429_ldu.specs.Ldu.{LduValue}
 use Rattle.a429_explain.specs.declared.groups.Request.{Request}
 use Rattle.a429_explain.specs.declared.stop.Stop.{Stop}
 use Rattle.a429_explain.specs.declared.stop.Stop.TheVariants.{Unexplained, OutOfMemory}
-use Rattle.a429_explain.specs.declared.verdict.Doubt.TheVariants.{NeverWhole, NotOneBlock, NotReplayed}
+use Rattle.a429_explain.specs.declared.verdict.Doubt.TheVariants.{NeverWhole, NotOneBlock, NotReplayed, OutOfSteps}
 use Rattle.a429_explain.specs.Decoded.{HeardValue}
 use Rattle.a429_explain.specs.Block.{other_for, unit_for, IsWhyNoUnit, HasCrossed}
 use Rattle.a429_explain.specs.Matching.{passed_after}
@@ -24,6 +24,7 @@ lacks_memory : (h : HeardValue) (r : Request) (s : Stop) (u : LduValue) → IsWh
 lacks_memory h r (Unexplained i NotOneBlock) u why none is = absurd (cc (why, none))
 lacks_memory h r (Unexplained i NeverWhole) u why none is = absurd (let never = why.2 in cc (never, is))
 lacks_memory h r (Unexplained i NotReplayed) u why none is = absurd why
+lacks_memory h r (Unexplained i OutOfSteps) u why none is = absurd why
 lacks_memory h r OutOfMemory u why none is = refl
 
 pub returns-in-Some-clause-first : goal.returns-in-Some-clause-first

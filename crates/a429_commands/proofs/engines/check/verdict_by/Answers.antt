@@ -11,4 +11,4 @@ returns-in-Check c =
 pub returns-in-Decide : goal.returns-in-Decide
 returns-in-Decide c =
     let e = c.decide.ensures in
-    rw c.in-Decide.is (found rule.Decide c.args.profile.now (items_of c.args.entries.now) c.decide.result e.explained e.accepted e.version e.doubted (decided c.args.profile.now (items_of c.args.entries.now) c.decide.result e.of_check e.impossible e.first) e.no_form e.without_loss)
+    rw c.in-Decide.is (found rule.Decide c.args.profile.now (items_of c.args.entries.now) c.decide.result e.explained e.accepted e.version e.doubted (decided c.args.profile.now (items_of c.args.entries.now) c.decide.result e.of_check e.left_open e.impossible e.first) e.no_form e.without_loss)
