@@ -9,4 +9,5 @@ pub returns-in-Ok-Explained : goal.returns-in-Ok-Explained
 returns-in-Ok-Explained c =
     let p = c.args.profile.now in
     let items = items_of c.args.entries.now in
-    λ is. some_begins p items _ (subst (λ (v : Verdict). IsOfSomeRun p items v) c.in-Ok-Explained.field-0-is c.in-Ok-Explained.ensures.some_run)
+    λ is.
+    some_begins p items _ (subst (λ (v : Verdict). IsOfSomeRun p items v) c.in-Ok-Explained.field-0-is c.in-Ok-Explained.ensures.some_run)

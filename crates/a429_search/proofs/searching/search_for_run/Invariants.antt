@@ -7,7 +7,8 @@ abbrev pub invariant-attempts : goal.invariant-attempts
 invariant-attempts l = record {
   inside : l.from ≤ length l.decoded.items;
   cut : IfSome l.cut_at (λ i. i < length l.decoded.items);
-  covers : l.search.is_whole ≡ true → CoverNext l.decoded.profile (attempts l.decoded.profile (take l.from l.decoded.items)) l.search.hypotheses.items;
+  covers : l.search.is_whole ≡ true
+      → CoverNext l.decoded.profile (attempts l.decoded.profile (take l.from l.decoded.items)) l.search.hypotheses.items;
 }
 
 abbrev pub decreases-attempts : goal.decreases-attempts

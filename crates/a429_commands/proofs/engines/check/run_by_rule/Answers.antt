@@ -16,4 +16,5 @@ pub returns : goal.returns
 returns g c =
     let rec = heard g.R.Read.remaining c.args.rec.now c.told_on.new.rec in
     let found = c.in_ok-told.ensures in
-    of_one c.in_ok-told.told (IsToldOfHeard c.args.rule c.args.profile.now rec) (ComesBy (unheard_causes c.args.profile.now rec)) (found.told, found.device) found.told.0.is_profile.0 c.write_found.ensures
+    of_one c.in_ok-told.told (IsToldOfHeard c.args.rule c.args.profile.now rec) (ComesBy (unheard_causes c.args.profile.now rec))
+    (found.told, found.device) found.told.0.is_profile.0 c.write_found.ensures

@@ -24,4 +24,5 @@ returns g c =
     after_file (certificate_of t.verdict) c.in_ok-write_certificate.ensures.ok
     (ends_as promise ((of_told (λ w. w ≡ t) (λ e. e ≡ run.Memory)).after (certificate_of t.verdict))
     (λ status text h. record { told = t; is = refl; certificate_is = refl; status_is = h.0; text_is = h.1 }) (λ e text never. never)
-    (λ text h. (verdict_status t.verdict, record { told = t; is = refl; certificate_is = refl; status_is = refl; text_is = h })) (λ e h. absurd h.1) c.write_at_once.ensures)
+    (λ text h. (verdict_status t.verdict, record { told = t; is = refl; certificate_is = refl; status_is = refl; text_is = h }))
+    (λ e h. absurd h.1) c.write_at_once.ensures)
