@@ -116,10 +116,10 @@ def other(watch, word, message, last):
 
 
 class Attempt:
-    """A request, and the words of the block since its clear answer."""
+    """A request, and the words of the block since its clear answer, also the data words alone."""
 
     def __init__(self, request, count):
-        self.request, self.count, self.words = request, count, []
+        self.request, self.count, self.words, self.data = request, count, [], []
 
 
 def attempts_of(profile, entries):
@@ -132,13 +132,15 @@ def attempts_of(profile, entries):
             kept.append(last)
             last = Attempt(n, message[1])
         elif name == "cts":
-            last.words = []
+            last.words, last.data = [], []
         elif name == "ack" and number != message[1:]:
             number = None
         elif name in BLOCK:
             if name == "sot" and not last.words and number != message[2:]:
                 number, kept = message[2:], []
             last.words.append(word)
+            if name == "data":
+                last.data.append(word)
     return [it for it in kept if it.request is not None], last
 
 
@@ -159,7 +161,7 @@ def rival(attempts):
     for it in kept:
         if it.count != last.count:
             return [f"against {it.request}", f"count {last.count}, before {it.count}"]
-        if shortest(it.words, last.words) > last.count:
+        if shortest(it.data, last.data) + 2 > last.count:
             return [f"against {it.request}", f"words of both, more than {last.count}"]
     return []
 

@@ -27,6 +27,12 @@ ROWS = {
     "another count": ([RTS, CTS, SOT, LONG, LONG_CTS, SOT], "OtherBlock", "against 2|count 5, before 3"),
     "another end word": ([*ONE_BYTE, RTS, CTS, SOT, ("eot", 0, 0xA3F5)], "OtherBlock", "against 4|end word {8}, before {4}"),
     "two data words of one": ([RTS, CTS, SOT, ("data", 3, 3), *ONE_BYTE], "NoRun", "against 0|words of both, more than 3"),
+    "two data words of one, before its end word": ([RTS, CTS, SOT, ("data", 3, 3), *ONE_BYTE[:4]], "NoRun", "against 0|words of both, more than 3"),
+    "two data words of one, with no start word": (
+        [RTS, CTS, SOT, RTS, CTS, ("data", 3, 3), *ONE_BYTE[:4]],
+        "NoRun",
+        "against 3|words of both, more than 3",
+    ),
     "another count in between": ([RTS, CTS, SOT, LONG, LONG_CTS, FIRST, RTS, CTS, SOT], "NoRun", "against 3|count 3, before 5"),
     "another data word": ([*WHOLE, LONG, LONG_CTS, SOT, FIRST, THIRD, SECOND], "OtherBlock", "against 6|word {12}, the block goes on with {6}"),
 }

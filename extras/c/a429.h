@@ -56,10 +56,11 @@ enum {
     A429_WRONG_NUMBER = 5,
     A429_OTHER_BLOCK = 6,
     A429_NO_RUN = 7,
-    /* of A429_UNEXPLAINED by a429_decide (CHECKER.md, Attempts and groups) */
+    /* of A429_UNEXPLAINED by a429_decide (CHECKER.md, What its answer says); 11 and 12 do not come any more */
     A429_NEVER_WHOLE = 11,
     A429_NOT_ONE_BLOCK = 12,
     A429_NOT_REPLAYED = 13,
+    A429_OUT_OF_STEPS = 14,
     /* of A429_UNEXPLAINED by a429_verify (CERTIFICATES.md) */
     A429_CERT_VERSION = 21,       /* the first line names no version */
     A429_CERT_LINE = 22,          /* found->line is no line that may come there */

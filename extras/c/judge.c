@@ -45,6 +45,7 @@ static const char *name_of(uint32_t reason)
     case A429_NEVER_WHOLE: return "NeverWhole";
     case A429_NOT_ONE_BLOCK: return "NotOneBlock";
     case A429_NOT_REPLAYED: return "NotReplayed";
+    case A429_OUT_OF_STEPS: return "OutOfSteps";
     default: return "?";
     }
 }

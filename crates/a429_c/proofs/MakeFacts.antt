@@ -17,7 +17,8 @@ timed-last k (x ∷ xs) s =
     ap (λ es. entry_at k x ∷ es) (timed-last (k + 1) xs s ∙ ap (λ i. timed (k + 1) xs ++ entry_at i s ∷ []) at)
 
 -- a further word
-pub timed-more : (xs : List Seen) (i : ℕ) (s : Seen) → i < length xs → s ≡ get_or xs i s → timed 0 (take (i + 1) xs) ≡ timed 0 (take i xs) ++ entry_at i s ∷ []
+pub timed-more : (xs : List Seen) (i : ℕ) (s : Seen)
+    → i < length xs → s ≡ get_or xs i s → timed 0 (take (i + 1) xs) ≡ timed 0 (take i xs) ++ entry_at i s ∷ []
 timed-more xs i s h found =
     let long = length-take-le i xs (omega arith) in
     let place : 0 + length (take i xs) ≡ i = omega (arith, long) in
@@ -25,15 +26,18 @@ timed-more xs i s h found =
     ∙ timed-last 0 (take i xs) s ∙ ap (λ n. timed 0 (take i xs) ++ entry_at n s ∷ []) place
 
 -- a further file, cut from the bytes that are left
-pub joined-more : (files : List (List ℕ)) (rest bytes : List ℕ) (n : ℕ) → flat_map (λ f. f) files ++ rest ≡ bytes → flat_map (λ f. f) (files ++ take n rest ∷ []) ++ drop n rest ≡ bytes
+pub joined-more : (files : List (List ℕ)) (rest bytes : List ℕ) (n : ℕ)
+    → flat_map (λ f. f) files ++ rest ≡ bytes → flat_map (λ f. f) (files ++ take n rest ∷ []) ++ drop n rest ≡ bytes
 joined-more files rest bytes n so_far =
-    ap (λ t. t ++ drop n rest) (flat_map-append (λ f. f) files (take n rest ∷ []) ∙ ap (λ t. flat_map (λ f. f) files ++ t) (append-nil (take n rest)))
+    ap (λ t. t ++ drop n rest)
+    (flat_map-append (λ f. f) files (take n rest ∷ []) ∙ ap (λ t. flat_map (λ f. f) files ++ t) (append-nil (take n rest)))
     ∙ append_assoc (flat_map (λ f. f) files) (take n rest) (drop n rest)
     ∙ ap (λ t. flat_map (λ f. f) files ++ t) (take-append-drop n rest)
     ∙ so_far
 
 -- and its length
-pub lengths-more : (files : List (List ℕ)) (file : List ℕ) (lengths : List ℕ) (i n d : ℕ) → i < length lengths → n ≡ get_or lengths i d → length file ≡ n → map length files ≡ take i lengths → map length (files ++ file ∷ []) ≡ take (i + 1) lengths
+pub lengths-more : (files : List (List ℕ)) (file : List ℕ) (lengths : List ℕ) (i n d : ℕ) → i < length lengths → n ≡ get_or lengths i d
+    → length file ≡ n → map length files ≡ take i lengths → map length (files ++ file ∷ []) ≡ take (i + 1) lengths
 lengths-more files file lengths i n d h found long so_far =
     map-append length files (file ∷ [])
     ∙ ap (λ ns. ns ++ length file ∷ []) so_far
@@ -45,7 +49,8 @@ pub record CutMore (files : List (List ℕ)) (rest bytes lengths : List ℕ) (i 
   pub joined : flat_map (λ f. f) files ++ rest ≡ bytes
   pub long : map length files ≡ take i lengths
 
-pub cut-more : (files more : List (List ℕ)) (rest left bytes lengths : List ℕ) (i n d : ℕ) → i < length lengths → n ≡ get_or lengths i d → n ≤ length rest → more ≡ files ++ take n rest ∷ [] → left ≡ drop n rest
+pub cut-more : (files more : List (List ℕ)) (rest left bytes lengths : List ℕ) (i n d : ℕ)
+    → i < length lengths → n ≡ get_or lengths i d → n ≤ length rest → more ≡ files ++ take n rest ∷ [] → left ≡ drop n rest
     → flat_map (λ f. f) files ++ rest ≡ bytes → map length files ≡ take i lengths → CutMore more left bytes lengths (i + 1)
 cut-more files more rest left bytes lengths i n d h found room file after joined long =
     rw (file, after) (record {

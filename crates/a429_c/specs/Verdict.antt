@@ -11,9 +11,9 @@ use Rattle.a429_explain.specs.declared.verdict.Verdict.TheVariants.{Explained, I
 use Rattle.a429_explain.specs.declared.verdict.Reason.{Reason}
 use Rattle.a429_explain.specs.declared.verdict.Reason.TheVariants.{NoForm, NotGranted, WrongAnswer, BadBlock, WrongNumber, OtherBlock, NoRun}
 use Rattle.a429_explain.specs.declared.verdict.Doubt.{Doubt}
-use Rattle.a429_explain.specs.declared.verdict.Doubt.TheVariants.{NeverWhole, NotOneBlock, NotReplayed}
+use Rattle.a429_explain.specs.declared.verdict.Doubt.TheVariants.{NeverWhole, NotOneBlock, NotReplayed, OutOfSteps}
 use Rattle.a429_explain.specs.Verdict.{IsSoundVerdict, IsAccepted, IsOfLeastVersion, IsDoubted}
-use Rattle.a429_search.specs.Deciding.{IsImpossibleBy, IsOfCheck}
+use Rattle.a429_search.specs.Deciding.{IsImpossibleBy, IsLeftOpen, IsOfCheck}
 use Rattle.a429_c.specs.Input.{IsProfileOf}
 use Rattle.a429_c.specs.Buffers.{Holds, Left, LeavesFiles}
 
@@ -27,6 +27,7 @@ pub record IsDecided (p : Contents) (items : List Seen) (v : Verdict) : Type 0 w
   pub impossible : IsImpossibleBy p items v
   pub doubted : IsDoubted p items v
   pub of_check : IsOfCheck p items v
+  pub left_open : IsLeftOpen p items v
 
 -- it is one on the recording that these bytes are, under a profile that was read
 abbrev pub IsVerdictUnder : Contents → List ℕ → Verdict → Type 0
@@ -56,6 +57,7 @@ abbrev pub number_of_doubt : Doubt → ℕ
 number_of_doubt NeverWhole = 11
 number_of_doubt NotOneBlock = 12
 number_of_doubt NotReplayed = 13
+number_of_doubt OutOfSteps = 14
 
 abbrev pub reason_of : Verdict → ℕ
 reason_of (Explained certificate files) = 0

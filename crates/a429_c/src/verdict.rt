@@ -72,6 +72,7 @@ fn number_of_doubt(doubt: Doubt) -> u32
         Doubt::NeverWhole => 11,
         Doubt::NotOneBlock => 12,
         Doubt::NotReplayed => 13,
+        Doubt::OutOfSteps => 14,
     }
 }
 

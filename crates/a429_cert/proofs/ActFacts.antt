@@ -32,7 +32,8 @@ act-back FreeSeen = refl
 act-back GiveUp = refl
 
 -- it is this one, or one of those behind it
-named : (b c : ℕ) (x a : Act) (others : Option Act) → act_text x ≡ c ∷ [] → (if b == c then Some x else others) ≡ Some a → (others ≡ Some a → b ∷ [] ≡ act_text a) → b ∷ [] ≡ act_text a
+named : (b c : ℕ) (x a : Act) (others : Option Act)
+    → act_text x ≡ c ∷ [] → (if b == c then Some x else others) ≡ Some a → (others ≡ Some a → b ∷ [] ≡ act_text a) → b ∷ [] ≡ act_text a
 named b c x a others spelled e more =
     elim (split (b == c) (Some x) others a e) [
       | inl p ↦ ap (λ n. n ∷ []) (is_same b c p.0) ∙ sym spelled ∙ ap act_text (some_is x a p.1)

@@ -18,7 +18,8 @@ lines_split k zero b =
 lines_split k (suc a) b =
     let next : k + suc a ≡ suc k + a = omega arith in
     let sum : suc a + b ≡ suc (a + b) = omega arith in
-    rw (next, sum) (ap (λ (t : List ℕ). word_lines k ++ t) (lines_split (suc k) a b) ∙ sym (append_assoc (word_lines k) (block_lines (suc k) a) (block_lines (suc k + a) b)))
+    rw (next, sum) (ap (λ (t : List ℕ). word_lines k ++ t) (lines_split (suc k) a b)
+    ∙ sym (append_assoc (word_lines k) (block_lines (suc k) a) (block_lines (suc k + a) b)))
 
 -- one word more
 pub word_more : (k : ℕ) (none one two : List ℕ) (sent taken : CertLine) → none ≡ block_lines 0 k → sent ≡ sent_line k → taken ≡ taken_line k
@@ -35,14 +36,16 @@ word_more k none one two sent taken before s t first second =
     ∙ sym (lines_split 0 k 1)
 
 -- and where it begins
-pub start_more : (k : ℕ) (old new text : List ℕ) → old ≡ values_below start_of k → new ≡ old ++ length text ∷ [] → text ≡ block_lines 0 k → new ≡ values_below start_of (k + 1)
+pub start_more : (k : ℕ) (old new text : List ℕ)
+    → old ≡ values_below start_of k → new ≡ old ++ length text ∷ [] → text ≡ block_lines 0 k → new ≡ values_below start_of (k + 1)
 start_more k old new text before more is =
     let one : k + 1 ≡ suc k = omega arith in
     rw (one, more, before, is) refl
 
 -- ---- a part of it
 
-pub lines_between : (place words from to : ℕ) (text : List ℕ) → place + words ≤ 254 → text ≡ block_lines 0 254 → from ≡ start_of place → to ≡ start_of (place + words)
+pub lines_between : (place words from to : ℕ) (text : List ℕ)
+    → place + words ≤ 254 → text ≡ block_lines 0 254 → from ≡ start_of place → to ≡ start_of (place + words)
     → take (to - from) (drop from text) ≡ block_lines place words
 lines_between place words from to text few is start end =
     let here : 0 + place ≡ place = omega arith in
@@ -51,18 +54,33 @@ lines_between place words from to text few is start end =
     let inside = block_lines place words in
     let after = block_lines (place + words) rest in
     let whole : text ≡ block_lines 0 place ++ (inside ++ after) =
-    is ∙ ap (block_lines 0) (sym all) ∙ lines_split 0 place (words + rest) ∙ ap (λ (j : ℕ). block_lines 0 place ++ block_lines j (words + rest)) here ∙ ap (λ (t : List ℕ). block_lines 0 place ++ t) (lines_split place words rest) in
-    let size : to - from ≡ length inside = omega (arith, start, end, ap length (lines_split 0 place words ∙ ap (λ (j : ℕ). block_lines 0 place ++ block_lines j words) here), length-append (block_lines 0 place) inside) in
+    is ∙ ap (block_lines 0) (sym all) ∙ lines_split 0 place (words + rest)
+    ∙ ap (λ (j : ℕ). block_lines 0 place ++ block_lines j (words + rest)) here
+    ∙ ap (λ (t : List ℕ). block_lines 0 place ++ t) (lines_split place words rest) in
+    let size : to - from ≡ length inside = omega (
+      arith,
+      start,
+      end,
+      ap length (lines_split 0 place words ∙ ap (λ (j : ℕ). block_lines 0 place ++ block_lines j words) here),
+      length-append (block_lines 0 place) inside,
+    ) in
     rw (size, start, whole, drop-append_seam (block_lines 0 place) (inside ++ after)) (take-append_seam inside after)
 
 pub starts_ordered : (place words from to : ℕ) → from ≡ start_of place → to ≡ start_of (place + words) → from ≤ to
 starts_ordered place words from to start end =
     let here : 0 + place ≡ place = omega arith in
     let inside = block_lines place words in
-    omega (arith, start, end, ap length (lines_split 0 place words ∙ ap (λ (j : ℕ). block_lines 0 place ++ block_lines j words) here), length-append (block_lines 0 place) inside)
+    omega (
+      arith,
+      start,
+      end,
+      ap length (lines_split 0 place words ∙ ap (λ (j : ℕ). block_lines 0 place ++ block_lines j words) here),
+      length-append (block_lines 0 place) inside,
+    )
 
 pub ends_inside : (end to : ℕ) (text : List ℕ) → end ≤ 254 → text ≡ block_lines 0 254 → to ≡ start_of end → to ≤ length text
 ends_inside end to text few is here =
     let all : end + (254 - end) ≡ 254 = omega (arith, few) in
-    let whole : text ≡ block_lines 0 end ++ block_lines (0 + end) (254 - end) = is ∙ ap (block_lines 0) (sym all) ∙ lines_split 0 end (254 - end) in
+    let whole : text ≡ block_lines 0 end ++ block_lines (0 + end) (254 - end) =
+    is ∙ ap (block_lines 0) (sym all) ∙ lines_split 0 end (254 - end) in
     omega (arith, here, ap length whole, length-append (block_lines 0 end) (block_lines (0 + end) (254 - end)))

@@ -112,12 +112,15 @@ same-digits (x ∷ xs) (y ∷ ys) len hx hy e =
     let tail : length xs ≡ length ys = omega arith in
     let low_x : digits_value 16 xs < p = rw (← tail) (digits_value-lt 16 xs (AllDigits-from 16 xs px.1)) in
     let low_y : digits_value 16 ys < p = digits_value-lt 16 ys (AllDigits-from 16 ys py.1) in
-    let value_x : digits_value 16 (x ∷ xs) ≡ digit_value x * p + digits_value 16 xs = first-digit x xs ∙ ap (λ k. digit_value x * 16 ^ k + digits_value 16 xs) tail in
+    let value_x : digits_value 16 (x ∷ xs) ≡ digit_value x * p + digits_value 16 xs =
+    first-digit x xs ∙ ap (λ k. digit_value x * 16 ^ k + digits_value 16 xs) tail in
     let values : digit_value x * p + digits_value 16 xs ≡ digit_value y * p + digits_value 16 ys = sym value_x ∙ e ∙ first-digit y ys in
     let heads : digit_value x ≡ digit_value y =
-    sym (div-mul-add (digit_value x) p (digits_value 16 xs) low_x) ∙ ap (λ n. n / p) values ∙ div-mul-add (digit_value y) p (digits_value 16 ys) low_y in
+    sym (div-mul-add (digit_value x) p (digits_value 16 xs) low_x) ∙ ap (λ n. n / p) values
+    ∙ div-mul-add (digit_value y) p (digits_value 16 ys) low_y in
     let tails : digits_value 16 xs ≡ digits_value 16 ys =
-    sym (mod-mul-add (digit_value x) p (digits_value 16 xs) low_x) ∙ ap (λ n. n % p) values ∙ mod-mul-add (digit_value y) p (digits_value 16 ys) low_y in
+    sym (mod-mul-add (digit_value x) p (digits_value 16 xs) low_x) ∙ ap (λ n. n % p) values
+    ∙ mod-mul-add (digit_value y) p (digits_value 16 ys) low_y in
     let same : x ≡ y = sym (glyph-value x px.0) ∙ ap (digit_glyph true) heads ∙ glyph-value y py.0 in
     ap (λ c. c ∷ xs) same ∙ ap (λ cs. y ∷ cs) (same-digits xs ys tail px.1 py.1 tails)
 
@@ -145,7 +148,8 @@ digit-small b d e =
     let is = digit-some b d e in
     rw (← is.1) (is_digit-value 16 b is.0)
 
-pub read-more : (i n d : ℕ) (text : List ℕ) → i < length text → IsRead i n text → Some d ≡ hex_digit_in (get_or text i 0) → IsRead (i + 1) (n * 16 + d) text
+pub read-more : (i n d : ℕ) (text : List ℕ)
+    → i < length text → IsRead i n text → Some d ≡ hex_digit_in (get_or text i 0) → IsRead (i + 1) (n * 16 + d) text
 read-more i n d text h read e =
     let is = digit-some (get_or text i 0) d e in
     record {
@@ -191,12 +195,14 @@ digits-upper (b ∷ bs) up all =
     let (here, more) = and_parts (is_not_lower b) (list_all is_not_lower bs) up in
     rw (digit-upper b here all.0) (digits-upper bs more all.1)
 
-no-word : (text : List ℕ) (all : Bool) → list_all (is_digit 16) text ≡ all → length text ≡ 8 → ¬ IsHexWord text → None ≡ when all (digits_value 16 text)
+no-word : (text : List ℕ) (all : Bool)
+    → list_all (is_digit 16) text ≡ all → length text ≡ 8 → ¬ IsHexWord text → None ≡ when all (digits_value 16 text)
 no-word text true e len none = absurd (none (len, AllDigits-from 16 text e))
 no-word text false e len none = refl
 
 -- a word of eight digits, none of them a letter in lower case
-pub word-upper : (text : List ℕ) (read : Option ℕ) → length text ≡ 8 → list_all is_not_lower text ≡ true → ReadsHex text read → read ≡ hex_digits_in text
+pub word-upper : (text : List ℕ) (read : Option ℕ)
+    → length text ≡ 8 → list_all is_not_lower text ≡ true → ReadsHex text read → read ≡ hex_digits_in text
 unfolding hex_digits_in
 word-upper text (Some w) len up reads = rw (digits-upper text up reads.0.1, reads.1) refl
 word-upper text None len up reads = no-word text (list_all (is_digit 16) text) refl len reads
@@ -229,4 +235,5 @@ pub last-digits : (k n : ℕ) → k ≤ 8 → take (8 - (8 - k)) (drop (8 - k) (
 last-digits k n h =
     let e : 8 ≡ 8 - k + k = omega arith in
     let all : length (numeral 16 k n) ≤ 8 - (8 - k) = omega (arith, length-numeral k n) in
-    ap (λ i. take (8 - (8 - k)) (drop (8 - k) (numeral 16 i n))) e ∙ ap (take (8 - (8 - k))) (drop-numeral (8 - k) k n) ∙ take_all (8 - (8 - k)) (numeral 16 k n) all
+    ap (λ i. take (8 - (8 - k)) (drop (8 - k) (numeral 16 i n))) e ∙ ap (take (8 - (8 - k))) (drop-numeral (8 - k) k n)
+    ∙ take_all (8 - (8 - k)) (numeral 16 k n) all

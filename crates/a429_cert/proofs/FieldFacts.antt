@@ -15,13 +15,17 @@ pub record IsSpelling {A : Type 0} (read : List ℕ → Option (A × List ℕ)) 
   pub back : (value : A) (rest : List ℕ) → Fits value → IsNext rest → read (text value ++ rest) ≡ Some (value, rest)
   pub only : (bytes : List ℕ) (value : A × List ℕ) → read bytes ≡ Some value → (bytes ≡ text value.0 ++ value.1) × Fits value.0
 
-pub field-back : {A : Type 0} (read : List ℕ → Option (A × List ℕ)) (text : A → List ℕ) (Fits : A → Type 0) → IsSpelling read text Fits → (value : A) (rest : List ℕ) → Fits value → IsNext rest
+pub field-back : {A : Type 0} (read : List ℕ → Option (A × List ℕ)) (text : A → List ℕ) (Fits : A → Type 0) → IsSpelling read text Fits
+    → (value : A) (rest : List ℕ) → Fits value → IsNext rest
     → with_rest read (field (text value) ++ rest) ≡ Some (value, rest)
 field-back read text Fits is value rest fits next = is.back value rest fits next
 
-pub last-back : {A : Type 0} (read : List ℕ → Option (A × List ℕ)) (text : A → List ℕ) (Fits : A → Type 0) → IsSpelling read text Fits → (value : A) → Fits value
+pub last-back : {A : Type 0} (read : List ℕ → Option (A × List ℕ)) (text : A → List ℕ) (Fits : A → Type 0) → IsSpelling read text Fits
+    → (value : A) → Fits value
     → with_rest read (field (text value)) ≡ Some (value, [])
-last-back read text Fits is value fits = subst (λ (t : List ℕ). with_rest read t ≡ Some (value, [])) (append-nil (field (text value))) (field-back read text Fits is value [] fits tt)
+last-back read text Fits is value fits =
+    subst (λ (t : List ℕ). with_rest read t ≡ Some (value, [])) (append-nil (field (text value)))
+    (field-back read text Fits is value [] fits tt)
 
 space-is : (b : ℕ) → (b == 32) ≡ true → b ≡ 32
 space-is b h = grind (arith, nat_tests)
@@ -32,7 +36,8 @@ after_space-is (b ∷ bytes) text e =
     let w = when_some (b == 32) bytes text e in
     rw (← w.1, space-is b w.0) refl
 
-pub field-only : {A : Type 0} (read : List ℕ → Option (A × List ℕ)) (text : A → List ℕ) (Fits : A → Type 0) → IsSpelling read text Fits → (bytes : List ℕ) (value : A × List ℕ)
+pub field-only : {A : Type 0} (read : List ℕ → Option (A × List ℕ)) (text : A → List ℕ) (Fits : A → Type 0) → IsSpelling read text Fits
+    → (bytes : List ℕ) (value : A × List ℕ)
     → with_rest read bytes ≡ Some value → (bytes ≡ field (text value.0) ++ value.1) × Fits value.0
 field-only read text Fits is bytes value e =
     let here = bind_some (after_space bytes) _ value e in

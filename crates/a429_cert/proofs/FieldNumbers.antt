@@ -40,7 +40,8 @@ unfolding decimal_digit_in
 no-digit [] next = refl
 no-digit (b ∷ bs) next = rw next refl
 
-digit-only : (bytes : List ℕ) (digit : ℕ × List ℕ) → decimal_digit_in bytes ≡ Some digit → (bytes ≡ (48 + digit.0) ∷ digit.1) × (digit.0 < 10)
+digit-only : (bytes : List ℕ) (digit : ℕ × List ℕ)
+    → decimal_digit_in bytes ≡ Some digit → (bytes ≡ (48 + digit.0) ∷ digit.1) × (digit.0 < 10)
 unfolding decimal_digit_in
 digit-only [] digit e = absurd cc
 digit-only (b ∷ bs) digit e =
@@ -68,17 +69,25 @@ some-digit d h = grind (arith, nat_tests)
 one-back : (a : ℕ) (rest : List ℕ) → a < 10 → IsNext rest → decimal_in ((48 + a) ∷ rest) ≡ Some (a, rest)
 unfolding decimal_in
 one-back a rest h next =
-    rw (digit-back a rest h, ends-back a rest next, ends-back a rest next) (either (a == 0) (Some (a, rest)) (Some (a, rest)) (Some (a, rest)) refl refl)
+    rw (digit-back a rest h, ends-back a rest next, ends-back a rest next)
+    (either (a == 0) (Some (a, rest)) (Some (a, rest)) (Some (a, rest)) refl refl)
 
-two-back : (a b : ℕ) (rest : List ℕ) → 1 ≤ a → a < 10 → b < 10 → IsNext rest → decimal_in ((48 + a) ∷ (48 + b) ∷ rest) ≡ Some (a * 10 + b, rest)
+two-back : (a b : ℕ) (rest : List ℕ)
+    → 1 ≤ a → a < 10 → b < 10 → IsNext rest → decimal_in ((48 + a) ∷ (48 + b) ∷ rest) ≡ Some (a * 10 + b, rest)
 unfolding decimal_in
 two-back a b rest some h i next =
     rw (digit-back a ((48 + b) ∷ rest) h, some-digit a some, goes-back a b rest i (omega arith), ends-back (a * 10 + b) rest next) refl
 
-three-back : (a b c : ℕ) (rest : List ℕ) → 1 ≤ a → a < 10 → b < 10 → c < 10 → (a * 10 + b) * 10 + c ≤ 255 → decimal_in ((48 + a) ∷ (48 + b) ∷ (48 + c) ∷ rest) ≡ Some ((a * 10 + b) * 10 + c, rest)
+three-back : (a b c : ℕ) (rest : List ℕ) → 1 ≤ a → a < 10 → b < 10 → c < 10 → (a * 10 + b) * 10 + c ≤ 255
+    → decimal_in ((48 + a) ∷ (48 + b) ∷ (48 + c) ∷ rest) ≡ Some ((a * 10 + b) * 10 + c, rest)
 unfolding decimal_in
 three-back a b c rest some h i j most =
-    rw (digit-back a ((48 + b) ∷ (48 + c) ∷ rest) h, some-digit a some, goes-back a b ((48 + c) ∷ rest) i (omega arith), goes-back (a * 10 + b) c rest j most) refl
+    rw (
+      digit-back a ((48 + b) ∷ (48 + c) ∷ rest) h,
+      some-digit a some,
+      goes-back a b ((48 + c) ∷ rest) i (omega arith),
+      goes-back (a * 10 + b) c rest j most,
+    ) refl
 
 number-back : (n : ℕ) (rest : List ℕ) → n < 256 → IsNext rest → decimal_in (decimal n ++ rest) ≡ Some (n, rest)
 number-back n rest h next =
@@ -90,7 +99,8 @@ number-back n rest h next =
           let is : a * 10 + b ≡ n = omega arith in
           elim (cases_lt a 10) [
             | inl two ↦
-                rw (decimal_step n more (omega arith), decimal_digit a two) (two-back a b rest (omega arith) two (omega arith) next ∙ ap (λ m. Some (m, rest)) is)
+                rw (decimal_step n more (omega arith), decimal_digit a two)
+                (two-back a b rest (omega arith) two (omega arith) next ∙ ap (λ m. Some (m, rest)) is)
             | inr three ↦
                 let c = a / 10 in
                 let d = a % 10 in
@@ -126,7 +136,8 @@ goes-only bytes n v is e = by (decimal_digit_in n.1) refl e
         let here = digit-only n.1 x f in
         let most : n.0 * 10 + x.0 ≤ 255 = omega (arith, below (n.0 * 10 + x.0) 255 w.0) in
         subst (Begins bytes) w.1 (record {
-          spelled = is.spelled ∙ ap (λ t. decimal n.0 ++ t) here.0 ∙ sym (append_assoc (decimal n.0) ((48 + x.0) ∷ []) x.1) ∙ ap (λ t. t ++ x.1) (sym (longer n.0 x.0 is.least is.most here.1));
+          spelled = is.spelled ∙ ap (λ t. decimal n.0 ++ t) here.0 ∙ sym (append_assoc (decimal n.0) ((48 + x.0) ∷ []) x.1)
+              ∙ ap (λ t. t ++ x.1) (sym (longer n.0 x.0 is.least is.most here.1));
           least = omega (arith, is.least);
           most = most;
         })
@@ -138,10 +149,14 @@ number-only bytes v e =
     let here = digit-only bytes first.0 first.1 in
     let spelled : bytes ≡ decimal first.0.0 ++ first.0.1 = here.0 ∙ ap (λ t. t ++ first.0.1) (sym (decimal_digit first.0.0 here.1)) in
     elim (parted (first.0.0 == 0) (Some first.0) _ v first.2) [
-      | inl p ↦ let P : ℕ × List ℕ → Type 0 = λ x. (bytes ≡ decimal x.0 ++ x.1) × (x.0 < 256) in subst P (some_is first.0 v p.1) (spelled, omega (arith, here.1))
+      | inl p ↦
+          let P : ℕ × List ℕ → Type 0 = λ x. (bytes ≡ decimal x.0 ++ x.1) × (x.0 < 256) in
+          subst P (some_is first.0 v p.1) (spelled, omega (arith, here.1))
       | inr r ↦
           let second = bind_some (with_next_digit first.0) with_next_digit v r.1 in
-          let one = goes-only bytes first.0 second.0 (record { spelled = spelled; least = not-zero first.0.0 r.0; most = omega (arith, here.1) }) second.1 in
+          let one =
+          goes-only bytes first.0 second.0
+          (record { spelled = spelled; least = not-zero first.0.0 r.0; most = omega (arith, here.1) }) second.1 in
           let two = goes-only bytes second.0 v one second.2 in
           (two.spelled, omega (arith, two.most))
     ]
@@ -169,7 +184,8 @@ last_decimal-only text n e =
     let w = when_some (length number.0.1 == 0) number.0.0 n number.2 in
     let here = field-only decimal_in decimal (λ n. n < 256) decimals text number.0 number.1 in
     let P : ℕ → Type 0 = λ x. (text ≡ field (decimal x)) × (x < 256) in
-    subst P w.1 (here.0 ∙ ap (λ t. field (decimal number.0.0) ++ t) (nothing number.0.1 w.0) ∙ append-nil (field (decimal number.0.0)), here.1)
+    subst P w.1
+    (here.0 ∙ ap (λ t. field (decimal number.0.0) ++ t) (nothing number.0.1 w.0) ∙ append-nil (field (decimal number.0.0)), here.1)
 
 -- ---- hexadecimal numbers
 
@@ -185,8 +201,15 @@ hex-back : (k n : ℕ) (rest : List ℕ) → n < 16 ^ k → IsNext rest → hex_
 unfolding hex_in
 hex-back k n rest h next =
     let value : digits_value 16 (numeral 16 k n) ≡ n = value-numeral k n ∙ mod-eq_of_lt h in
-    let room : nat_le k (length (numeral 16 k n ++ rest)) ≡ true = fits k (length (numeral 16 k n ++ rest)) (omega (arith, length-append (numeral 16 k n) rest, length-numeral k n)) in
-    rw (room, take_at (numeral 16 k n) rest k (length-numeral k n), drop_at (numeral 16 k n) rest k (length-numeral k n), digits_in-back (numeral 16 k n) (digits-numeral k n), value) refl
+    let room : nat_le k (length (numeral 16 k n ++ rest)) ≡ true =
+    fits k (length (numeral 16 k n ++ rest)) (omega (arith, length-append (numeral 16 k n) rest, length-numeral k n)) in
+    rw (
+      room,
+      take_at (numeral 16 k n) rest k (length-numeral k n),
+      drop_at (numeral 16 k n) rest k (length-numeral k n),
+      digits_in-back (numeral 16 k n) (digits-numeral k n),
+      value,
+    ) refl
 
 hex-only : (k : ℕ) (text : List ℕ) (v : ℕ × List ℕ) → hex_in k text ≡ Some v → (text ≡ numeral 16 k v.0 ++ v.1) × (v.0 < 16 ^ k)
 unfolding hex_in
@@ -196,7 +219,8 @@ hex-only k text v e =
     let b = bind_some (hex_digits_in a.0) _ v a.2 in
     let digits = digits_in-only (take k text) b.0 (ap hex_digits_in tests.1 ∙ b.1) in
     let len : length (take k text) ≡ k = length-take-le k text (omega (arith, below k (length text) tests.0)) in
-    let here : take k text ≡ numeral 16 k b.0 = numeral-value (take k text) digits.0 ∙ ap (λ j. numeral 16 j (digits_value 16 (take k text))) len ∙ ap (numeral 16 k) digits.1 in
+    let here : take k text ≡ numeral 16 k b.0 =
+    numeral-value (take k text) digits.0 ∙ ap (λ j. numeral 16 j (digits_value 16 (take k text))) len ∙ ap (numeral 16 k) digits.1 in
     let low = digits_value-lt 16 (take k text) (AllDigits-from 16 (take k text) digits.0) in
     let small : b.0 < 16 ^ k = rw len at (rw digits.1 at low) in
     let P : ℕ × List ℕ → Type 0 = λ x. (text ≡ numeral 16 k x.0 ++ x.1) × (x.0 < 16 ^ k) in

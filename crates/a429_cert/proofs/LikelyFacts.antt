@@ -42,11 +42,13 @@ no_end : (b : ℕ) → IsVisible b → (b == 10) ≡ false
 no_end b h = grind (arith, nat_tests, h.0)
 
 -- a line without control characters ends at its line feed
-ends_there : (text rest : List ℕ) → AllByRecursion IsVisible text → certificate_lines (text ++ 10 ∷ rest) ≡ Some text ∷ certificate_lines rest
+ends_there : (text rest : List ℕ)
+    → AllByRecursion IsVisible text → certificate_lines (text ++ 10 ∷ rest) ≡ Some text ∷ certificate_lines rest
 ends_there [] rest h = refl
 ends_there (b ∷ bs) rest h = rw (no_end b h.0, ends_there bs rest h.1) refl
 
-pub line_first : (l : CertLine) (text rest : List ℕ) → SpellsLine text l → certificate_lines (text ++ 10 ∷ rest) ≡ Some text ∷ certificate_lines rest
+pub line_first : (l : CertLine) (text rest : List ℕ)
+    → SpellsLine text l → certificate_lines (text ++ 10 ∷ rest) ≡ Some text ∷ certificate_lines rest
 line_first l text rest s = ends_there text rest (subst (AllByRecursion IsVisible) (sym s.spelled) (line-visible l s.line s.held))
 
 pub sent_spells : (k : ℕ) → 1 ≤ k → k < 254 → SpellsLine (spelling (sent_line k)) (sent_line k)
@@ -69,7 +71,8 @@ moved_is m n e = cc e
 
 -- a line that may be spelled so, and that each version reads as it is
 likely : (n : MovedLine) (text : List ℕ) (m : MovedLine) → SpellsLine (spelling (Moved n)) (Moved n)
-    → ((v : Version) → read_as v (Some (spelling (Moved n))) ≡ Some (spelling (Moved n))) → text ≡ spelling (Moved n) → Moved m ≡ Moved n → IsLikely text m
+    → ((v : Version) → read_as v (Some (spelling (Moved n))) ≡ Some (spelling (Moved n))) → text ≡ spelling (Moved n) → Moved m ≡ Moved n
+    → IsLikely text m
 likely n text m spells read e is =
     rw (e, moved_is m n is) (record {
       says = λ v. rw (read v) spells;
@@ -80,7 +83,8 @@ likely n text m spells read e is =
 -- ---- a line by its pieces
 
 -- only a line of a file that is given up is read in another way by a version
-moved_read : (a : Act) (s : States) → a ≢ GiveUp → (v : Version) → read_as v (Some (spelling (Moved (record { act = a; states = s })))) ≡ Some (spelling (Moved (record { act = a; states = s })))
+moved_read : (a : Act) (s : States) → a ≢ GiveUp → (v : Version)
+    → read_as v (Some (spelling (Moved (record { act = a; states = s })))) ≡ Some (spelling (Moved (record { act = a; states = s })))
 moved_read a s goes Two = refl
 moved_read Sent s goes One = refl
 moved_read SentLost s goes One = refl
@@ -95,19 +99,27 @@ moved_read GiveUp s goes One = absurd (goes refl)
 
 regroup : (a b c d e : List ℕ) → a ++ (b ++ ((c ++ d) ++ e)) ≡ (((a ++ b) ++ c) ++ d) ++ e
 regroup a b c d e =
-    ap (λ l. a ++ (b ++ l)) (append_assoc c d e) ∙ sym (append_assoc ((a ++ b) ++ c) d e ∙ append_assoc (a ++ b) c (d ++ e) ∙ append_assoc a b (c ++ (d ++ e)))
+    ap (λ l. a ++ (b ++ l)) (append_assoc c d e)
+    ∙ sym (append_assoc ((a ++ b) ++ c) d e ∙ append_assoc (a ++ b) c (d ++ e) ∙ append_assoc a b (c ++ (d ++ e)))
 
-pub likely_pieces : (a : Act) (letter : ℕ) (s : States) (source ways : List ℕ) → a ≢ GiveUp → letter ∷ [] ≡ act_text a → (source ≡ field (source_text s.source)) × IsSource s.source → IsWays s ways
+pub likely_pieces : (a : Act) (letter : ℕ) (s : States) (source ways : List ℕ)
+    → a ≢ GiveUp → letter ∷ [] ≡ act_text a → (source ≡ field (source_text s.source)) × IsSource s.source → IsWays s ways
     → IsLikely (letter ∷ (source ++ ways)) (record { act = a; states = s })
 likely_pieces a letter s source ways goes is from way =
     let m : MovedLine = record { act = a; states = s } in
-    likely m (letter ∷ (source ++ ways)) m (record { line = (from.1, way.sink); held = (omega (arith, way.to_sink), omega (arith, way.to_source)); spelled = refl }) (moved_read a s goes)
-    (rw (from.0, way.text) (ap (λ (l : List ℕ). l ++ (field (source_text s.source) ++ (field (sink_text s.sink) ++ field (decimal s.to_sink) ++ field (decimal s.to_source)))) is
-    ∙ regroup (act_text a) (field (source_text s.source)) (field (sink_text s.sink)) (field (decimal s.to_sink)) (field (decimal s.to_source))))
+    likely m (letter ∷ (source ++ ways)) m
+    (record { line = (from.1, way.sink); held = (omega (arith, way.to_sink), omega (arith, way.to_source)); spelled = refl })
+    (moved_read a s goes)
+    (rw (from.0, way.text)
+    (ap (λ (l : List ℕ).
+    l ++ (field (source_text s.source) ++ (field (sink_text s.sink) ++ field (decimal s.to_sink) ++ field (decimal s.to_source)))) is
+    ∙ regroup (act_text a) (field (source_text s.source)) (field (sink_text s.sink)) (field (decimal s.to_sink))
+    (field (decimal s.to_source))))
     refl
 
 -- the last piece, of a sink that takes no word of a block
-pub other_ways : (s : States) (sink : SinkState) (m n : ℕ) (text : List ℕ) → s.sink ≡ sink → s.to_sink ≡ m → s.to_source ≡ n → IsSink sink → m ≤ 1 → n ≤ 1
+pub other_ways : (s : States) (sink : SinkState) (m n : ℕ) (text : List ℕ)
+    → s.sink ≡ sink → s.to_sink ≡ m → s.to_source ≡ n → IsSink sink → m ≤ 1 → n ≤ 1
     → text ≡ field (sink_text sink) ++ field ((48 + m) ∷ []) ++ field ((48 + n) ∷ []) → IsWays s text
 other_ways s sink m n text is to_sink to_source held few some e = record {
   text = e ∙ rw (is, to_sink, to_source, decimal_digit m (omega (arith, few)), decimal_digit n (omega (arith, some))) refl;
@@ -128,7 +140,9 @@ get-below f zero k d h = absurd (omega arith)
 get-below f (suc n) k d h = by (get-below f n k d) (nat_lt k n) refl
   where
     by : (k < n → get_or (values_below f n) k d ≡ f k) → (b : Bool) → nat_lt k n ≡ b → get_or (values_below f n ++ f n ∷ []) k d ≡ f k
-    by before true e = let less : k < n = grind (arith, nat_tests) in get_or_append_left (values_below f n) (f n ∷ []) d k (omega (arith, length-below f n)) ∙ before less
+    by before true e =
+        let less : k < n = grind (arith, nat_tests) in
+        get_or_append_left (values_below f n) (f n ∷ []) d k (omega (arith, length-below f n)) ∙ before less
     by before false e =
         let same : k ≡ n = grind (arith, nat_tests) in
         rw same (get_or_push (values_below f n) (f n) d n (length-below f n))
@@ -143,14 +157,18 @@ text_ahead buffer text next filled len inside is =
     let one : len + 1 ≡ suc len = omega arith in
     is ∙ ap (λ l. text ++ 10 ∷ l) (ap (λ n. drop n (take (filled - next) (drop next buffer))) one ∙ ahead_now buffer next filled len inside)
 
-pub text_held : (buffer text : List ℕ) (next filled len : ℕ) (rest : List ℕ) → len < length (take (filled - next) (drop next buffer)) → len ≡ length text → take (filled - next) (drop next buffer) ≡ text ++ rest
+pub text_held : (buffer text : List ℕ) (next filled len : ℕ) (rest : List ℕ)
+    → len < length (take (filled - next) (drop next buffer)) → len ≡ length text → take (filled - next) (drop next buffer) ≡ text ++ rest
     → (if nat_lt next (next + (len + 1)) then Some (take (next + (len + 1) - 1 - next) (drop next buffer)) else None) ≡ Some text
 text_held buffer text next filled len rest inside same is =
     let longer : nat_lt next (next + (len + 1)) ≡ true = grind (arith, nat_tests) in
-    rw longer (ap Some (held_now buffer next filled len inside ∙ ap (λ n. take n (take (filled - next) (drop next buffer))) same ∙ ap (take (length text)) is ∙ take-append_seam text rest))
+    rw longer
+    (ap Some (held_now buffer next filled len inside ∙ ap (λ n. take n (take (filled - next) (drop next buffer))) same
+    ∙ ap (take (length text)) is ∙ take-append_seam text rest))
 
 -- a line that is ahead, by its pieces
-pub line_pieces : (bytes ways rest source ending : List ℕ) (letter : ℕ) → 0 < length bytes → get_or bytes 0 0 ≡ letter → drop 1 bytes ≡ source ++ ways → ways ≡ ending ++ rest
+pub line_pieces : (bytes ways rest source ending : List ℕ) (letter : ℕ)
+    → 0 < length bytes → get_or bytes 0 0 ≡ letter → drop 1 bytes ≡ source ++ ways → ways ≡ ending ++ rest
     → 0 < length rest → get_or rest 0 0 ≡ 10
     → bytes ≡ (letter ∷ (source ++ ending)) ++ 10 ∷ drop (length bytes - length rest + 1) bytes
 line_pieces bytes ways rest source ending letter some first is is' more feed =
@@ -160,7 +178,8 @@ line_pieces bytes ways rest source ending letter some first is is' more feed =
     let all : bytes ≡ text ++ rest = drop_more bytes 0 0 some ∙ rw (first, joined) refl in
     let long : length bytes ≡ length text + length rest = ap length all ∙ length-append text rest in
     let len : length bytes - length rest + 1 ≡ length text + 1 = omega (arith, long) in
-    let past : drop (length bytes - length rest + 1) bytes ≡ drop 1 rest = ap (λ n. drop n bytes) len ∙ ap (drop (length text + 1)) all ∙ drop_past text rest in
+    let past : drop (length bytes - length rest + 1) bytes ≡ drop 1 rest =
+    ap (λ n. drop n bytes) len ∙ ap (drop (length text + 1)) all ∙ drop_past text rest in
     all ∙ ap (λ l. text ++ l) (left ∙ ap (λ l. 10 ∷ l) (sym past))
   where
     drop_past : (front more : List ℕ) → drop (length front + 1) (front ++ more) ≡ drop 1 more
@@ -170,18 +189,21 @@ line_pieces bytes ways rest source ending letter some first is is' more feed =
         ap (λ n. drop n (b ∷ (front ++ more))) one ∙ drop_past front more
 
 -- the bytes that were read begin with the text
-pub text_first : (buffer text : List ℕ) (next filled : ℕ) (r : Bool) → r ≡ starts_with ◌==◌ (take (filled - next) (drop next buffer)) text → r ≡ true
+pub text_first : (buffer text : List ℕ) (next filled : ℕ) (r : Bool)
+    → r ≡ starts_with ◌==◌ (take (filled - next) (drop next buffer)) text → r ≡ true
     → take (filled - next) (drop next buffer) ≡ text ++ take (filled - (next + length text)) (drop (next + length text) buffer)
 text_first buffer text next filled r e is =
     let ahead = take (filled - next) (drop next buffer) in
     let starts = (starts_is Decides-eqb ahead text r e).0 is in
-    let all : length ahead ≡ length text + length (drop (length text) ahead) = ap length starts ∙ length-append text (drop (length text) ahead) in
+    let all : length ahead ≡ length text + length (drop (length text) ahead) =
+    ap length starts ∙ length-append text (drop (length text) ahead) in
     starts ∙ ap (λ l. text ++ l) (ahead_past buffer next filled (length text) (omega (arith, all)))
 
 -- ---- a line that is known
 
 -- a step of its name may not be made
-pub refused_line : (p : Contents) (text : Option (List ℕ)) (m : MovedLine) (n : ℕ) (s : State) → SaysLine text (Moved m) → (IsNamedOf p m.act s → ⊥) → RefusesFirst p text n s (of.NotAllowed n)
+pub refused_line : (p : Contents) (text : Option (List ℕ)) (m : MovedLine) (n : ℕ) (s : State)
+    → SaysLine text (Moved m) → (IsNamedOf p m.act s → ⊥) → RefusesFirst p text n s (of.NotAllowed n)
 refused_line p None m n s says none = absurd says
 refused_line p (Some text) m n s says none = λ at here z.
     fault-read p s at.next at.line at.entry text (Moved m) (of.NotAllowed n) says tt (tt, (sym here, none))

@@ -15,7 +15,8 @@ use Rattle.a429_cert.proofs.Options.{some_is}
 -- ---- places in the buffer
 
 -- a line that begins where what is ahead began, and ends before a line feed there
-pub held_now : (buffer : List ℕ) (next filled len : ℕ) → len < length (take (filled - next) (drop next buffer)) → take (next + (len + 1) - 1 - next) (drop next buffer) ≡ take len (take (filled - next) (drop next buffer))
+pub held_now : (buffer : List ℕ) (next filled len : ℕ) → len < length (take (filled - next) (drop next buffer))
+    → take (next + (len + 1) - 1 - next) (drop next buffer) ≡ take len (take (filled - next) (drop next buffer))
 held_now buffer next filled len h =
     let all = drop next buffer in
     let inside : len ≤ filled - next = omega (arith, length-take (filled - next) all) in
@@ -29,7 +30,8 @@ ahead_past buffer next filled len h =
     let all = drop next buffer in
     let some : len ≤ filled - next = omega (arith, h, length-take (filled - next) all) in
     let both : filled - next ≡ len + (filled - (next + len)) = omega (arith, some) in
-    ap (λ k. drop len (take k all)) both ∙ drop-take len (filled - (next + len)) all ∙ ap (take (filled - (next + len))) (drop-drop len next buffer)
+    ap (λ k. drop len (take k all)) both ∙ drop-take len (filled - (next + len)) all
+    ∙ ap (take (filled - (next + len))) (drop-drop len next buffer)
 
 -- what is then ahead
 pub ahead_now : (buffer : List ℕ) (next filled len : ℕ) → len < length (take (filled - next) (drop next buffer))
@@ -43,19 +45,23 @@ ahead_now buffer next filled len h =
     ∙ ap (take (filled - (next + (len + 1)))) (drop-drop (suc len) next buffer ∙ ap (λ k. drop k buffer) there)
 
 -- the line that a search finds
-pub line_taken : (buffer : List ℕ) (next filled len : ℕ) (r : Option ℕ) (z : List ℕ) → IsFirstByte (is_byte 10) (take (filled - next) (drop next buffer)) r → r ≡ Some len
+pub line_taken : (buffer : List ℕ) (next filled len : ℕ) (r : Option ℕ) (z : List ℕ)
+    → IsFirstByte (is_byte 10) (take (filled - next) (drop next buffer)) r → r ≡ Some len
     → certificate_lines (take (filled - next) (drop next buffer) ++ z)
-    ≡ (if nat_lt next (next + (len + 1)) then Some (take (next + (len + 1) - 1 - next) (drop next buffer)) else None) ∷ certificate_lines (take (filled - (next + (len + 1))) (drop (next + (len + 1)) buffer) ++ z)
+    ≡ (if nat_lt next (next + (len + 1)) then Some (take (next + (len + 1) - 1 - next) (drop next buffer)) else None)
+    ∷ certificate_lines (take (filled - (next + (len + 1))) (drop (next + (len + 1)) buffer) ++ z)
 line_taken buffer next filled len r z h e =
     let ahead = take (filled - next) (drop next buffer) in
     let found = subst (IsFirstByte (is_byte 10) ahead) e h in
     let longer : nat_lt next (next + (len + 1)) ≡ true = grind (arith, nat_tests) in
-    rw (longer, held_now buffer next filled len found.0.high, ← ahead_now buffer next filled len found.0.high) (first_line ahead z len found.0.high found.0.before found.1)
+    rw (longer, held_now buffer next filled len found.0.high, ← ahead_now buffer next filled len found.0.high)
+    (first_line ahead z len found.0.high found.0.before found.1)
 
 -- ---- bytes that are read
 
 -- they stand behind what was ahead
-pub read_behind : (buffer got : List ℕ) (k next filled n : ℕ) → next ≡ 0 → length (take (filled - next) (drop next buffer)) ≡ filled → n ≤ length got
+pub read_behind : (buffer got : List ℕ) (k next filled n : ℕ)
+    → next ≡ 0 → length (take (filled - next) (drop next buffer)) ≡ filled → n ≤ length got
     → take (filled + n - next) (drop next (put_mid filled k buffer got)) ≡ take (filled - next) (drop next buffer) ++ take n got
 read_behind buffer got k next filled n none whole few =
     let inside : filled ≤ length buffer = omega (arith, whole, length-take (filled - next) (drop next buffer), length-drop next buffer) in
@@ -63,7 +69,8 @@ read_behind buffer got k next filled n none whole few =
     let old : filled - next ≡ filled = omega arith in
     rw (all, old, none) (take-put_mid_within filled k n buffer got inside few)
 
-pub grown : (a b : Option (List ℕ)) (before ahead new got : List ℕ) → ahead ≡ before → new ≡ ahead ++ got → Consumes a b got → Keeps (prepend_known before a) (prepend_known new b)
+pub grown : (a b : Option (List ℕ)) (before ahead new got : List ℕ)
+    → ahead ≡ before → new ≡ ahead ++ got → Consumes a b got → Keeps (prepend_known before a) (prepend_known new b)
 grown None b before ahead new got e f h = tt
 grown (Some x) None before ahead new got e f h = absurd h
 grown (Some x) (Some y) before ahead new got e f h = rw (f, h, e) (append_assoc before got y)
@@ -73,10 +80,12 @@ pub none_behind : (buffer got : List ℕ) (k next filled : ℕ) → next ≡ 0 �
     → take (filled - next) (drop next (put_mid filled k buffer got)) ≡ take (filled - next) (drop next buffer)
 none_behind buffer got k next filled none whole =
     let same : filled - next ≡ filled + 0 - next = omega arith in
-    ap (λ n. take n (drop next (put_mid filled k buffer got))) same ∙ read_behind buffer got k next filled 0 none whole (omega arith) ∙ append-nil (take (filled - next) (drop next buffer))
+    ap (λ n. take n (drop next (put_mid filled k buffer got))) same ∙ read_behind buffer got k next filled 0 none whole (omega arith)
+    ∙ append-nil (take (filled - next) (drop next buffer))
 
 -- a read that fails takes nothing
-pub none_lost : (a b : Option (List ℕ)) (before new : List ℕ) → new ≡ before → Keeps a b → Keeps (prepend_known before a) (prepend_known new b)
+pub none_lost : (a b : Option (List ℕ)) (before new : List ℕ)
+    → new ≡ before → Keeps a b → Keeps (prepend_known before a) (prepend_known new b)
 none_lost None b before new e h = tt
 none_lost (Some x) None before new e h = absurd h
 none_lost (Some x) (Some y) before new e h = rw (e, h) refl
@@ -89,7 +98,8 @@ none_grown got new ahead before n none e f =
 
 -- ---- lines that are handed out
 
-left_after : (line : Option (List ℕ)) (old new : List ℕ) → IsSome line → certificate_lines old ≡ line ∷ certificate_lines new → IsLeftAfter line old new
+left_after : (line : Option (List ℕ)) (old new : List ℕ)
+    → IsSome line → certificate_lines old ≡ line ∷ certificate_lines new → IsLeftAfter line old new
 left_after (Some text) old new some e = sym (ap (drop 1) e)
 left_after None old new some e = absurd (cc some)
 
@@ -148,7 +158,8 @@ cut_first : (lines : List (Option (List ℕ))) (n : ℕ) → 2288 ≤ n → Open
 cut_first lines n h o = rw o.first (ap Some (cut_long n o.line h o.long))
 
 -- what was read has no line feed, and no more is read
-open_first : (b : ℕ) (bs z : List ℕ) → HasNoEnd (b ∷ bs) → (2288 ≤ length (b ∷ bs)) ⊎ (z ≡ []) → option_map cut (slice_get (certificate_lines ((b ∷ bs) ++ z)) 0) ≡ Some None
+open_first : (b : ℕ) (bs z : List ℕ)
+    → HasNoEnd (b ∷ bs) → (2288 ≤ length (b ∷ bs)) ⊎ (z ≡ []) → option_map cut (slice_get (certificate_lines ((b ∷ bs) ++ z)) 0) ≡ Some None
 open_first b bs z h (inl long) = cut_first (certificate_lines ((b ∷ bs) ++ z)) (suc (length bs)) long (opens b bs z h)
 open_first b bs z h (inr none) = rw (none, append-nil bs) (by (no_line (b ∷ bs) h))
   where
@@ -156,14 +167,16 @@ open_first b bs z h (inr none) = rw (none, append-nil bs) (by (no_line (b ∷ bs
     by (inl e) = absurd (cc e)
     by (inr e) = rw e refl
 
-open_of : (ahead z x : List ℕ) → ahead ++ z ≡ x → HasNoEnd ahead → (2288 ≤ length ahead) ⊎ (z ≡ []) → IsFirstLine (not (length ahead == 0)) x (ahead ++ z) None
+open_of : (ahead z x : List ℕ)
+    → ahead ++ z ≡ x → HasNoEnd ahead → (2288 ≤ length ahead) ⊎ (z ≡ []) → IsFirstLine (not (length ahead == 0)) x (ahead ++ z) None
 open_of [] z x e h (inl long) = absurd (omega (arith, long))
 open_of [] z x e h (inr none) = let all : x ≡ [] = sym e ∙ none in ap certificate_lines all
 open_of (b ∷ bs) z x e h end =
     let some : (length (b ∷ bs) == 0) ≡ false = grind (arith, nat_tests) in
     rw some (subst (λ (l : List ℕ). option_map cut (slice_get (certificate_lines l) 0) ≡ Some None) e (open_first b bs z h end), e)
 
-pub open_given : (a b k : Option (List ℕ)) (before ahead : List ℕ) (line : Option (List ℕ)) → Keeps a b → Keeps b (prepend_known ahead k) → ahead ≡ before → HasNoEnd before → line ≡ None
+pub open_given : (a b k : Option (List ℕ)) (before ahead : List ℕ) (line : Option (List ℕ))
+    → Keeps a b → Keeps b (prepend_known ahead k) → ahead ≡ before → HasNoEnd before → line ≡ None
     → (2288 ≤ length ahead) ⊎ IsAtEnd k → GivesLine a (prepend_known ahead k) line (not (length ahead == 0))
 open_given None b k before ahead line h g e free none end = tt
 open_given (Some x) None k before ahead line h g e free none end = absurd h

@@ -97,14 +97,20 @@ first-visible : IsText (codes "first")
 first-visible = search (rules, arith)
 
 pub line-visible : (l : CertLine) → IsLine l → IsHeld l → IsText (spelling l)
-line-visible (First file) is held = joined (codes "first") (field (decimal file)) first-visible (in_field (decimal file) (decimal-visible file held))
+line-visible (First file) is held =
+    joined (codes "first") (field (decimal file)) first-visible (in_field (decimal file) (decimal-visible file held))
 line-visible (Load l) is held =
     five (codes "L") (field (numeral 16 1 l.gfi)) (field (numeral 16 1 l.flags)) (field (numeral 16 4 l.check)) (words_text l.words)
-    (letter 76 (omega arith) (omega arith)) (in_field (numeral 16 1 l.gfi) (numeral-visible 1 l.gfi)) (in_field (numeral 16 1 l.flags) (numeral-visible 1 l.flags)) (in_field (numeral 16 4 l.check) (numeral-visible 4 l.check)) (words-visible l.words)
+    (letter 76 (omega arith) (omega arith)) (in_field (numeral 16 1 l.gfi) (numeral-visible 1 l.gfi))
+    (in_field (numeral 16 1 l.flags) (numeral-visible 1 l.flags)) (in_field (numeral 16 4 l.check) (numeral-visible 4 l.check))
+    (words-visible l.words)
 line-visible (Moved l) is held =
     let s = l.states in
-    five (act_text l.act) (field (source_text s.source)) (field (sink_text s.sink)) (field (decimal s.to_sink)) (field (decimal s.to_source))
-    (act-visible l.act) (in_field (source_text s.source) (source-visible s.source is.0)) (in_field (sink_text s.sink) (sink-visible s.sink is.1)) (in_field (decimal s.to_sink) (decimal-visible s.to_sink held.0)) (in_field (decimal s.to_source) (decimal-visible s.to_source held.1))
+    five (act_text l.act) (field (source_text s.source)) (field (sink_text s.sink)) (field (decimal s.to_sink))
+    (field (decimal s.to_source))
+    (act-visible l.act) (in_field (source_text s.source) (source-visible s.source is.0))
+    (in_field (sink_text s.sink) (sink-visible s.sink is.1)) (in_field (decimal s.to_sink) (decimal-visible s.to_sink held.0))
+    (in_field (decimal s.to_source) (decimal-visible s.to_source held.1))
 
 -- ---- how many
 
@@ -138,14 +144,16 @@ length-sink OwesAck h = omega arith
 length-sink OwesNak h = omega arith
 
 length-five : (a b c d e : List ℕ) → length (a ++ b ++ c ++ d ++ e) ≡ length a + length b + length c + length d + length e
-length-five a b c d e = omega (arith, length-append (a ++ b ++ c ++ d) e, length-append (a ++ b ++ c) d, length-append (a ++ b) c, length-append a b)
+length-five a b c d e =
+    omega (arith, length-append (a ++ b ++ c ++ d) e, length-append (a ++ b ++ c) d, length-append (a ++ b) c, length-append a b)
 
 pub line-short : (l : CertLine) → IsLine l → IsHeld l → length (spelling l) ≤ 2287
 line-short (First file) is held = omega (arith, length-append (codes "first") (field (decimal file)), length-decimal file held)
 line-short (Load l) is held =
     omega (
       arith,
-      length-five (codes "L") (field (numeral 16 1 l.gfi)) (field (numeral 16 1 l.flags)) (field (numeral 16 4 l.check)) (words_text l.words),
+      length-five (codes "L") (field (numeral 16 1 l.gfi)) (field (numeral 16 1 l.flags)) (field (numeral 16 4 l.check))
+          (words_text l.words),
       length-numeral 1 l.gfi,
       length-numeral 1 l.flags,
       length-numeral 4 l.check,
@@ -156,7 +164,8 @@ line-short (Moved l) is held =
     let s = l.states in
     omega (
       arith,
-      length-five (act_text l.act) (field (source_text s.source)) (field (sink_text s.sink)) (field (decimal s.to_sink)) (field (decimal s.to_source)),
+      length-five (act_text l.act) (field (source_text s.source)) (field (sink_text s.sink)) (field (decimal s.to_sink))
+          (field (decimal s.to_source)),
       length-act l.act,
       length-source s.source is.0,
       length-sink s.sink is.1,

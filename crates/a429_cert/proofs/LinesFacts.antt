@@ -13,7 +13,8 @@ not_true true h = absurd (h refl)
 not_true false h = refl
 
 -- the line before the first line feed of some bytes, whatever comes behind them
-pub first_line : (bs z : List ℕ) (n : ℕ) → n < length bs → ((k : ℕ) → 0 ≤ k → k < n → Passes (is_byte 10) bs k → ⊥) → Passes (is_byte 10) bs n
+pub first_line : (bs z : List ℕ) (n : ℕ)
+    → n < length bs → ((k : ℕ) → 0 ≤ k → k < n → Passes (is_byte 10) bs k → ⊥) → Passes (is_byte 10) bs n
     → certificate_lines (bs ++ z) ≡ Some (take n bs) ∷ certificate_lines (drop (suc n) bs ++ z)
 first_line [] z n h before here = absurd (omega arith)
 first_line (b ∷ bs) z zero h before here = rw here refl
@@ -40,13 +41,18 @@ pub record BeginsAt (bs : List ℕ) (n : ℕ) : Type 0 where
 pub ends_at : (bs : List ℕ) (r : Option ℕ) (n : ℕ) → IsFirstByte (is_byte 10) bs r → r ≡ Some n → BeginsAt bs n
 ends_at bs r n h e =
     let found = subst (IsFirstByte (is_byte 10) bs) e h in
-    record { inside = found.0.high; lines = ap certificate_lines (sym (append-nil bs)) ∙ first_line bs [] n found.0.high found.0.before found.1 ∙ ap (λ (l : List ℕ). Some (take n bs) ∷ certificate_lines l) (append-nil (drop (suc n) bs)) }
+    record {
+      inside = found.0.high;
+      lines = ap certificate_lines (sym (append-nil bs)) ∙ first_line bs [] n found.0.high found.0.before found.1
+          ∙ ap (λ (l : List ℕ). Some (take n bs) ∷ certificate_lines l) (append-nil (drop (suc n) bs));
+    }
 
 -- no line ends there
 pub not_ended : (bs : List ℕ) (r : Option ℕ) → IsFirstByte (is_byte 10) bs r → r ≡ None → HasNoEnd bs
 not_ended bs r h e = subst (λ (o : Option ℕ). IfNone o (HasNoEnd bs)) e (no_end bs r h)
 
-pub unended : (bs : List ℕ) (r : Option ℕ) (empty : Bool) → IsFirstByte (is_byte 10) bs r → r ≡ None → empty ≡ (length bs == 0) → empty ≡ false → certificate_lines bs ≡ None ∷ []
+pub unended : (bs : List ℕ) (r : Option ℕ) (empty : Bool)
+    → IsFirstByte (is_byte 10) bs r → r ≡ None → empty ≡ (length bs == 0) → empty ≡ false → certificate_lines bs ≡ None ∷ []
 unended bs r empty h e is not = only (no_line bs (not_ended bs r h e))
   where
     only : (bs ≡ []) ⊎ (certificate_lines bs ≡ None ∷ []) → certificate_lines bs ≡ None ∷ []
@@ -55,13 +61,16 @@ unended bs r empty h e is not = only (no_line bs (not_ended bs r h e))
 
 -- ---- what the reader gives
 
-pub given_line : (bs old : List ℕ) (n : ℕ) (front : List ℕ) → bs ≡ old → BeginsAt bs n → front ≡ take n bs → Some (Some front) ≡ slice_get (certificate_lines old) 0
+pub given_line : (bs old : List ℕ) (n : ℕ) (front : List ℕ)
+    → bs ≡ old → BeginsAt bs n → front ≡ take n bs → Some (Some front) ≡ slice_get (certificate_lines old) 0
 given_line bs old n front e at f = rw (← e, at.lines, f) refl
 
-pub left_lines : (bs old : List ℕ) (n : ℕ) (back : List ℕ) → bs ≡ old → BeginsAt bs n → back ≡ drop n bs → certificate_lines (drop 1 back) ≡ drop 1 (certificate_lines old)
+pub left_lines : (bs old : List ℕ) (n : ℕ) (back : List ℕ)
+    → bs ≡ old → BeginsAt bs n → back ≡ drop n bs → certificate_lines (drop 1 back) ≡ drop 1 (certificate_lines old)
 left_lines bs old n back e at f = let next : n + 1 ≡ suc n = omega arith in rw (← e, at.lines, f, drop-drop 1 n bs, next) refl
 
-pub left_shorter : (bs old : List ℕ) (n : ℕ) (back left : List ℕ) → bs ≡ old → BeginsAt bs n → back ≡ drop n bs → left ≡ drop 1 back → length left < length old
+pub left_shorter : (bs old : List ℕ) (n : ℕ) (back left : List ℕ)
+    → bs ≡ old → BeginsAt bs n → back ≡ drop n bs → left ≡ drop 1 back → length left < length old
 left_shorter bs old n back left e at f g =
     omega (arith, at.inside, ap length e, ap length f, ap length g, length-drop n bs, length-drop 1 back)
 

@@ -28,9 +28,11 @@ use Rattle.a429_cert.proofs.Options.{some_is}
 
 -- they are one step that records nothing, or record a word each and are else the same
 abbrev Alike : Step → Step → Type 0
-Alike a b = ((a ≡ b) × (label a ≡ None)) ⊎ ((f : Seen → Step) × (x : Seen) × (y : Seen) × (f x ≡ a) × (f y ≡ b) × ((z : Seen) → label (f z) ≡ Some z))
+Alike a b = ((a ≡ b) × (label a ≡ None))
+    ⊎ ((f : Seen → Step) × (x : Seen) × (y : Seen) × (f x ≡ a) × (f y ≡ b) × ((z : Seen) → label (f z) ≡ Some z))
 
-recorded : (f : Seen → Step) (next other : Seen) (a b : Step) → ((z : Seen) → label (f z) ≡ Some z) → Some (f next) ≡ Some a → Some (f other) ≡ Some b → Alike a b
+recorded : (f : Seen → Step) (next other : Seen) (a b : Step) → ((z : Seen) → label (f z) ≡ Some z) → Some (f next) ≡ Some a
+    → Some (f other) ≡ Some b → Alike a b
 recorded f x y a b l e h = inr (f, x, y, some_is (f x) a e, some_is (f y) b h, l)
 
 silent : (c a b : Step) → label c ≡ None → Some c ≡ Some a → Some c ≡ Some b → Alike a b
@@ -66,7 +68,8 @@ record Same (a b : Step) (xs ys : List Step) (i : ℕ) : Type 0 where
   rest : trace ys ≡ take k (trace xs)
   next : slice_get (trace (a ∷ xs)) i ≡ slice_get (trace xs) k
 
-one_word : (a b : Step) (f : Seen → Step) (x y : Seen) (xs ys : List Step) (i : ℕ) → f x ≡ a → f y ≡ b → label a ≡ Some x → y ∷ trace ys ≡ take i (x ∷ trace xs) → Same a b xs ys i
+one_word : (a b : Step) (f : Seen → Step) (x y : Seen) (xs ys : List Step) (i : ℕ) → f x ≡ a → f y ≡ b → label a ≡ Some x
+    → y ∷ trace ys ≡ take i (x ∷ trace xs) → Same a b xs ys i
 one_word a b f x y xs ys zero ea eb l q = absurd (cc q)
 one_word a b f x y xs ys (suc i) ea eb l q =
     let head : y ≡ x = cc in
@@ -92,13 +95,20 @@ first_word w items zero e = refl
 first_word w items (suc i) e = absurd (cc e)
 
 -- the entry that a step of this letter uses is the next one
-own_act : (x : Act) (next : Option Seen) (a : Step) (xs : List Step) (i : ℕ) → step_with x next ≡ Some a → [] ≡ take i (trace (a ∷ xs)) → step_with x (slice_get (trace (a ∷ xs)) i) ≡ Some a
+own_act : (x : Act) (next : Option Seen) (a : Step) (xs : List Step) (i : ℕ)
+    → step_with x next ≡ Some a → [] ≡ take i (trace (a ∷ xs)) → step_with x (slice_get (trace (a ∷ xs)) i) ≡ Some a
 own_act act.Sent None a xs i e q = absurd (cc e)
-own_act act.Sent (Some w) a xs i e q = subst (λ c. [] ≡ take i (trace (c ∷ xs)) → step_with act.Sent (slice_get (trace (c ∷ xs)) i) ≡ Some c) (some_is (step.Sent w) a e) (λ r. ap (step_with act.Sent) (first_word w (trace xs) i r)) q
+own_act act.Sent (Some w) a xs i e q =
+    subst (λ c. [] ≡ take i (trace (c ∷ xs)) → step_with act.Sent (slice_get (trace (c ∷ xs)) i) ≡ Some c) (some_is (step.Sent w) a e)
+    (λ r. ap (step_with act.Sent) (first_word w (trace xs) i r)) q
 own_act act.Answered None a xs i e q = absurd (cc e)
-own_act act.Answered (Some w) a xs i e q = subst (λ c. [] ≡ take i (trace (c ∷ xs)) → step_with act.Answered (slice_get (trace (c ∷ xs)) i) ≡ Some c) (some_is (step.Answered w) a e) (λ r. ap (step_with act.Answered) (first_word w (trace xs) i r)) q
+own_act act.Answered (Some w) a xs i e q =
+    subst (λ c. [] ≡ take i (trace (c ∷ xs)) → step_with act.Answered (slice_get (trace (c ∷ xs)) i) ≡ Some c)
+    (some_is (step.Answered w) a e) (λ r. ap (step_with act.Answered) (first_word w (trace xs) i r)) q
 own_act act.FreeSeen None a xs i e q = absurd (cc e)
-own_act act.FreeSeen (Some w) a xs i e q = subst (λ c. [] ≡ take i (trace (c ∷ xs)) → step_with act.FreeSeen (slice_get (trace (c ∷ xs)) i) ≡ Some c) (some_is (step.FreeSeen w) a e) (λ r. ap (step_with act.FreeSeen) (first_word w (trace xs) i r)) q
+own_act act.FreeSeen (Some w) a xs i e q =
+    subst (λ c. [] ≡ take i (trace (c ∷ xs)) → step_with act.FreeSeen (slice_get (trace (c ∷ xs)) i) ≡ Some c)
+    (some_is (step.FreeSeen w) a e) (λ r. ap (step_with act.FreeSeen) (first_word w (trace xs) i r)) q
 own_act act.SentLost next a xs i e q = e
 own_act act.TimeOut next a xs i e q = e
 own_act act.TakeAnswer next a xs i e q = e
@@ -107,7 +117,8 @@ own_act act.SinkTakes next a xs i e q = e
 own_act act.Silent next a xs i e q = e
 own_act act.GiveUp next a xs i e q = e
 
-own_step : (l : CertLine) (next : Option Seen) (a : Step) (xs : List Step) (i : ℕ) → step_of l next ≡ Some a → [] ≡ take i (trace (a ∷ xs)) → step_of l (slice_get (trace (a ∷ xs)) i) ≡ Some a
+own_step : (l : CertLine) (next : Option Seen) (a : Step) (xs : List Step) (i : ℕ)
+    → step_of l next ≡ Some a → [] ≡ take i (trace (a ∷ xs)) → step_of l (slice_get (trace (a ∷ xs)) i) ≡ Some a
 own_step (First file) next a xs i e q = absurd (cc e)
 own_step (Load u) next a xs i e q = e
 own_step (Moved m) next a xs i e q = own_act m.act next a xs i e q
@@ -117,7 +128,8 @@ is_of_a_step (First file) next a e = absurd (cc e)
 is_of_a_step (Load u) next a e = tt
 is_of_a_step (Moved m) next a e = tt
 
-sound_step : (p : Contents) (s : State) (text : List ℕ) (a : Step) (next : Option Seen) (n i : ℕ) (f : CertFault) → (t : ListsStep p text a s) → step_of t.line next ≡ Some a → IsFaultOfStep p s (at_line n i next) t.line f → ⊥
+sound_step : (p : Contents) (s : State) (text : List ℕ) (a : Step) (next : Option Seen) (n i : ℕ) (f : CertFault)
+    → (t : ListsStep p text a s) → step_of t.line next ≡ Some a → IsFaultOfStep p s (at_line n i next) t.line f → ⊥
 sound_step p s text a next n i (of.NotAllowed m) t own d = d.1 (t.next, (a, t.step, t.can))
 sound_step p s text a next n i (of.WordDiffers m j) t own d = d.3 (a, own, t.can)
 sound_step p s text a next n i (of.StateDiffers m) t own d =
@@ -128,11 +140,15 @@ sound_step p s text a next n i of.Version t own d = d
 sound_step p s text a next n i (of.Unfinished m) t own d = d
 sound_step p s text a next n i of.OutOfMemory t own d = d
 
-of_line : (p : Contents) (s : State) (text : List ℕ) (a : Step) (next : Option Seen) (n i : ℕ) (f : CertFault) → (t : ListsStep p text a s) → step_of t.line next ≡ Some a
+of_line : (p : Contents) (s : State) (text : List ℕ) (a : Step) (next : Option Seen) (n i : ℕ) (f : CertFault)
+    → (t : ListsStep p text a s) → step_of t.line next ≡ Some a
     → (l : CertLine) × SpellsLine text l × IsOfAStep l × IsFaultOfStep p s (at_line n i next) l f → ⊥
-of_line p s text a next n i f t own d = sound_step p s text a next n i f t own (subst (λ l. IsFaultOfStep p s (at_line n i next) l f) (one-line text d.0 t.line d.1 t.spelled) d.3)
+of_line p s text a next n i f t own d =
+    sound_step p s text a next n i f t own
+    (subst (λ l. IsFaultOfStep p s (at_line n i next) l f) (one-line text d.0 t.line d.1 t.spelled) d.3)
 
-sound_line : (p : Contents) (s : State) (text : List ℕ) (a : Step) (next : Option Seen) (n i : ℕ) (f : CertFault) → (t : ListsStep p text a s) → step_of t.line next ≡ Some a → IsFaultOfLine p s (at_line n i next) (Some text) f → ⊥
+sound_line : (p : Contents) (s : State) (text : List ℕ) (a : Step) (next : Option Seen) (n i : ℕ) (f : CertFault)
+    → (t : ListsStep p text a s) → step_of t.line next ≡ Some a → IsFaultOfLine p s (at_line n i next) (Some text) f → ⊥
 sound_line p s text a next n i (of.Line m) t own d = d.1 t.line (is_of_a_step t.line t.next a t.step) t.spelled
 sound_line p s text a next n i (of.NotAllowed m) t own d = of_line p s text a next n i (of.NotAllowed m) t own d
 sound_line p s text a next n i (of.WordDiffers m j) t own d = of_line p s text a next n i (of.WordDiffers m j) t own d
@@ -143,7 +159,8 @@ sound_line p s text a next n i of.OutOfMemory t own d = d.3
 
 -- ---- lines that are all steps
 
-clash : (p : Contents) (lines : List (Option (List ℕ))) (xs ys : List Step) (s : State) (n i m j : ℕ) (f : CertFault) → ListsSteps p lines xs s → ListsSteps p (take n lines) ys s → trace ys ≡ take i (trace xs)
+clash : (p : Contents) (lines : List (Option (List ℕ))) (xs ys : List Step) (s : State) (n i m j : ℕ) (f : CertFault)
+    → ListsSteps p lines xs s → ListsSteps p (take n lines) ys s → trace ys ≡ take i (trace xs)
     → IsFaultAt p (end_of p ys s) (at_line m j (slice_get (trace xs) i)) (slice_get lines n) f → ⊥
 clash p [] [] ys s n i m j f h k e d = none ys (slice_get (trace []) i) refl d
   where
@@ -153,20 +170,26 @@ clash p [] [] ys s n i m j f h k e d = none ys (slice_get (trace []) i) refl d
 clash p [] (a ∷ xs) ys s n i m j f h k e d = absurd h
 clash p (None ∷ lines) xs ys s n i m j f h k e d = absurd h
 clash p (Some text ∷ lines) [] ys s n i m j f h k e d = absurd h
-clash p (Some text ∷ lines) (a ∷ xs) [] s zero i m j f h k e d = sound_line p s text a (slice_get (trace (a ∷ xs)) i) m j f h.0 (own_step h.0.line h.0.next a xs i h.0.step e) d
+clash p (Some text ∷ lines) (a ∷ xs) [] s zero i m j f h k e d =
+    sound_line p s text a (slice_get (trace (a ∷ xs)) i) m j f h.0 (own_step h.0.line h.0.next a xs i h.0.step e) d
 clash p (Some text ∷ lines) (a ∷ xs) (b ∷ ys) s zero i m j f h k e d = absurd k
 clash p (Some text ∷ lines) (a ∷ xs) [] s (suc n) i m j f h k e d = absurd k
 clash p (Some text ∷ lines) (a ∷ xs) (b ∷ ys) s (suc n) i m j f h k e d =
-    let other : step_of h.0.line k.0.next ≡ Some b = subst (λ l. step_of l k.0.next ≡ Some b) (one-line text k.0.line h.0.line k.0.spelled h.0.spelled) k.0.step in
+    let other : step_of h.0.line k.0.next ≡ Some b =
+    subst (λ l. step_of l k.0.next ≡ Some b) (one-line text k.0.line h.0.line k.0.spelled h.0.spelled) k.0.step in
     let r = heads a b xs ys i (line_alike h.0.line h.0.next k.0.next a b h.0.step other) e in
     let lists = subst (λ c. ListsSteps p (take n lines) ys (after p c s)) r.same k.1 in
-    clash p lines xs ys (after p a s) n r.k m j f h.1 lists r.rest (subst (λ o. IsFaultAt p (end_of p ys (after p a s)) (at_line m j o) (slice_get lines n) f) r.next (subst (λ c. IsFaultAt p (end_of p ys (after p c s)) (at_line m j (slice_get (trace (a ∷ xs)) i)) (slice_get lines n) f) r.same d))
+    clash p lines xs ys (after p a s) n r.k m j f h.1 lists r.rest
+    (subst (λ o. IsFaultAt p (end_of p ys (after p a s)) (at_line m j o) (slice_get lines n) f) r.next
+    (subst (λ c. IsFaultAt p (end_of p ys (after p c s)) (at_line m j (slice_get (trace (a ∷ xs)) i)) (slice_get lines n) f) r.same d))
 
 -- ---- the whole
 
 same_first : (first other : ℕ) → first ≤ 255 → other ≤ 255 → spelling (First first) ≡ spelling (First other) → first ≡ other
 same_first first other l m e =
-    let line : First first ≡ First other = one-line (spelling (First first)) (First first) (First other) (record { line = tt; held = omega arith; spelled = refl }) (record { line = tt; held = omega arith; spelled = e }) in
+    let line : First first ≡ First other =
+    one-line (spelling (First first)) (First first) (First other) (record { line = tt; held = omega arith; spelled = refl })
+    (record { line = tt; held = omega arith; spelled = e }) in
     cc
 
 pub other_digit : ◌≡◌ {A = ℕ} 49 50 → ⊥
@@ -178,32 +201,47 @@ same_version One Two e = absurd (other_digit (some_is 49 50 (ap (λ (l : List �
 same_version Two One e = absurd (other_digit (sym (some_is 50 49 (ap (λ (l : List ℕ). slice_get l 14) e))))
 same_version Two Two e = refl
 
-later_fault : (p : Contents) (certificate : List ℕ) (items : List Seen) (first : ℕ) (steps : List Step) (f : CertFault) → Explains p certificate items first steps → IsLaterFault p certificate items f → ⊥
+later_fault : (p : Contents) (certificate : List ℕ) (items : List Seen) (first : ℕ) (steps : List Step) (f : CertFault)
+    → Explains p certificate items first steps → IsLaterFault p certificate items f → ⊥
 later_fault p certificate items first steps f h k =
-    let own : slice_get (certificate_lines certificate) 1 ≡ Some (Some (spelling (First first))) = ap (λ (l : List (Option (List ℕ))). slice_get l 1) h.header in
+    let own : slice_get (certificate_lines certificate) 1 ≡ Some (Some (spelling (First first))) =
+    ap (λ (l : List (Option (List ℕ))). slice_get l 1) h.header in
     let same : k.head.first ≡ first = same_first k.head.first first k.says.1.0 h.byte (some_is _ _ (some_is _ _ (sym k.says.1.1 ∙ own))) in
-    let named : slice_get (certificate_lines certificate) 0 ≡ Some (Some (version_line h.version)) = ap (λ (l : List (Option (List ℕ))). slice_get l 0) h.header in
+    let named : slice_get (certificate_lines certificate) 0 ≡ Some (Some (version_line h.version)) =
+    ap (λ (l : List (Option (List ℕ))). slice_get l 0) h.header in
     let version : k.head.version ≡ h.version = same_version k.head.version h.version (some_is _ _ (some_is _ _ (sym k.says.0 ∙ named))) in
     let read = map (read_as h.version) h.lines in
-    let lines : step_lines k.head.version certificate ≡ read = ap (λ v. step_lines v certificate) version ∙ ap (λ (l : List (Option (List ℕ))). map (read_as h.version) (drop 2 l)) h.header in
+    let lines : step_lines k.head.version certificate ≡ read =
+    ap (λ v. step_lines v certificate) version ∙ ap (λ (l : List (Option (List ℕ))). map (read_as h.version) (drop 2 l)) h.header in
     let before = k.before in
-    let lists : ListsSteps p (take k.k read) before.steps (start p first) = subst (λ n. ListsSteps p (take k.k read) before.steps (start p n)) same (subst (λ (l : List (Option (List ℕ))). ListsSteps p (take k.k l) before.steps (start p k.head.first)) lines before.lists) in
+    let lists : ListsSteps p (take k.k read) before.steps (start p first) =
+    subst (λ n. ListsSteps p (take k.k read) before.steps (start p n)) same
+    (subst (λ (l : List (Option (List ℕ))). ListsSteps p (take k.k l) before.steps (start p k.head.first)) lines before.lists) in
     let ends : k.state ≡ end_of p before.steps (start p first) = before.ends ∙ ap (λ n. end_of p before.steps (start p n)) same in
-    let fault : IsFaultAt p (end_of p before.steps (start p first)) (at_line (k.k + 3) k.i (slice_get (trace steps) k.i)) (slice_get read k.k) f =
-    subst (λ (l : List Seen). IsFaultAt p (end_of p before.steps (start p first)) (at_line (k.k + 3) k.i (slice_get l k.i)) (slice_get read k.k) f) (sym h.used) (subst (λ (l : List (Option (List ℕ))). IsFaultAt p (end_of p before.steps (start p first)) (at_line (k.k + 3) k.i (slice_get items k.i)) (slice_get l k.k) f) lines (subst (λ t. IsFaultAt p t (at_line (k.k + 3) k.i (slice_get items k.i)) (slice_get (step_lines k.head.version certificate) k.k) f) ends k.fault)) in
+    let fault : IsFaultAt p (end_of p before.steps (start p first)) (at_line (k.k + 3) k.i (slice_get (trace steps) k.i))
+    (slice_get read k.k) f =
+    subst (λ (l : List Seen).
+    IsFaultAt p (end_of p before.steps (start p first)) (at_line (k.k + 3) k.i (slice_get l k.i)) (slice_get read k.k) f) (sym h.used)
+    (subst (λ (l : List (Option (List ℕ))).
+    IsFaultAt p (end_of p before.steps (start p first)) (at_line (k.k + 3) k.i (slice_get items k.i)) (slice_get l k.k) f) lines
+    (subst (λ t. IsFaultAt p t (at_line (k.k + 3) k.i (slice_get items k.i)) (slice_get (step_lines k.head.version certificate) k.k) f) ends
+    k.fault)) in
     clash p read steps before.steps (start p first) k.k k.i (k.k + 3) k.i f h.lists lists (before.used ∙ ap (take k.i) (sym h.used)) fault
 
-no_head : (p : Contents) (certificate : List ℕ) (items : List Seen) (first : ℕ) (steps : List Step) (f : CertFault) → Explains p certificate items first steps → IsFaultOfHead certificate f → ⊥
+no_head : (p : Contents) (certificate : List ℕ) (items : List Seen) (first : ℕ) (steps : List Step) (f : CertFault)
+    → Explains p certificate items first steps → IsFaultOfHead certificate f → ⊥
 no_head p certificate items first steps of.Version h d = d (h.version, ap (λ (l : List (Option (List ℕ))). slice_get l 0) h.header)
 no_head p certificate items first steps (of.Line n) h d = d.2 first (h.byte, ap (λ (l : List (Option (List ℕ))). slice_get l 1) h.header)
 no_head p certificate items first steps _ h d = d
 
-no_other : (p : Contents) (certificate : List ℕ) (items : List Seen) (first : ℕ) (steps : List Step) (f : CertFault) → Explains p certificate items first steps
+no_other : (p : Contents) (certificate : List ℕ) (items : List Seen) (first : ℕ) (steps : List Step) (f : CertFault)
+    → Explains p certificate items first steps
     → IsFaultOfHead certificate f ⊎ (IsVersioned certificate × IsLaterFault p certificate items f) → ⊥
 no_other p certificate items first steps f h (inl d) = no_head p certificate items first steps f h d
 no_other p certificate items first steps f h (inr d) = later_fault p certificate items first steps f h d.1
 
-pub no_fault : (p : Contents) (certificate : List ℕ) (items : List Seen) (first : ℕ) (steps : List Step) (f : CertFault) → Explains p certificate items first steps → IsFirstCertFault p certificate items f → ⊥
+pub no_fault : (p : Contents) (certificate : List ℕ) (items : List Seen) (first : ℕ) (steps : List Step) (f : CertFault)
+    → Explains p certificate items first steps → IsFirstCertFault p certificate items f → ⊥
 no_fault p certificate items first steps of.Version h d = no_head p certificate items first steps of.Version h d
 no_fault p certificate items first steps of.OutOfMemory h d = d
 no_fault p certificate items first steps (of.Line n) h d = no_other p certificate items first steps (of.Line n) h d

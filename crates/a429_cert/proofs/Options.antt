@@ -24,12 +24,14 @@ pub some_is : {A : Type 0} (x y : A) → Some x ≡ Some y → x ≡ y
 some_is x y e = cc
 
 -- a choice that gave a value
-pub split : {A : Type 0} (test : Bool) (x rest : Option A) (v : A) → (if test then x else rest) ≡ Some v → ((test ≡ true) × (x ≡ Some v)) ⊎ (rest ≡ Some v)
+pub split : {A : Type 0} (test : Bool) (x rest : Option A) (v : A)
+    → (if test then x else rest) ≡ Some v → ((test ≡ true) × (x ≡ Some v)) ⊎ (rest ≡ Some v)
 split true x rest v e = inl (refl, e)
 split false x rest v e = inr e
 
 -- the same, where the test matters for the other
-pub parted : {A : Type 0} (test : Bool) (x rest : Option A) (v : A) → (if test then x else rest) ≡ Some v → ((test ≡ true) × (x ≡ Some v)) ⊎ ((test ≡ false) × (rest ≡ Some v))
+pub parted : {A : Type 0} (test : Bool) (x rest : Option A) (v : A)
+    → (if test then x else rest) ≡ Some v → ((test ≡ true) × (x ≡ Some v)) ⊎ ((test ≡ false) × (rest ≡ Some v))
 parted true x rest v e = inl (refl, e)
 parted false x rest v e = inr (refl, e)
 

@@ -34,13 +34,17 @@ use Rattle.a429_cert.proofs.Options.{some_is}
 -- ---- a step by its letter
 
 -- a step of its name is one of its letter
-pub named_of : (p : Contents) (x : Act) (next : Option Seen) (a : Step) (s : State) → step_with x next ≡ Some a → IsNamedStep p a s → IsNamedOf p x s
+pub named_of : (p : Contents) (x : Act) (next : Option Seen) (a : Step) (s : State)
+    → step_with x next ≡ Some a → IsNamedStep p a s → IsNamedOf p x s
 named_of p act.Sent None a s e n = absurd (cc e)
-named_of p act.Sent (Some i) a s e n = let n' = subst (λ b. IsNamedStep p b s) (sym (some_is _ a e)) n in (Some n'.0, (step.Sent n'.0, refl, n'.1))
+named_of p act.Sent (Some i) a s e n =
+    let n' = subst (λ b. IsNamedStep p b s) (sym (some_is _ a e)) n in (Some n'.0, (step.Sent n'.0, refl, n'.1))
 named_of p act.Answered None a s e n = absurd (cc e)
-named_of p act.Answered (Some i) a s e n = let n' = subst (λ b. IsNamedStep p b s) (sym (some_is _ a e)) n in (Some n'.0, (step.Answered n'.0, refl, n'.1))
+named_of p act.Answered (Some i) a s e n =
+    let n' = subst (λ b. IsNamedStep p b s) (sym (some_is _ a e)) n in (Some n'.0, (step.Answered n'.0, refl, n'.1))
 named_of p act.FreeSeen None a s e n = absurd (cc e)
-named_of p act.FreeSeen (Some i) a s e n = let n' = subst (λ b. IsNamedStep p b s) (sym (some_is _ a e)) n in (Some n'.0, (step.FreeSeen n'.0, refl, n'.1))
+named_of p act.FreeSeen (Some i) a s e n =
+    let n' = subst (λ b. IsNamedStep p b s) (sym (some_is _ a e)) n in (Some n'.0, (step.FreeSeen n'.0, refl, n'.1))
 named_of p act.SentLost next a s e n = (next, (step.SentLost, refl, subst (λ b. IsNamedStep p b s) (sym (some_is _ a e)) n))
 named_of p act.TimeOut next a s e n = (next, (step.TimeOut, refl, subst (λ b. IsNamedStep p b s) (sym (some_is _ a e)) n))
 named_of p act.TakeAnswer next a s e n = (next, (step.TakeAnswer, refl, subst (λ b. IsNamedStep p b s) (sym (some_is _ a e)) n))
@@ -50,28 +54,41 @@ named_of p act.Silent next a s e n = (next, (step.Silent, refl, subst (λ b. IsN
 named_of p act.GiveUp next a s e n = (next, (step.GiveUp, refl, subst (λ b. IsNamedStep p b s) (sym (some_is _ a e)) n))
 
 -- and the other way round
-pub of_named : (p : Contents) (x : Act) (next other : Option Seen) (a b : Step) (s : State) → step_with x next ≡ Some a → step_with x other ≡ Some b → Can p b s → IsNamedStep p a s
+pub of_named : (p : Contents) (x : Act) (next other : Option Seen) (a b : Step) (s : State)
+    → step_with x next ≡ Some a → step_with x other ≡ Some b → Can p b s → IsNamedStep p a s
 of_named p act.Sent None other a b s e h can = absurd (cc e)
 of_named p act.Sent (Some i) None a b s e h can = absurd (cc h)
-of_named p act.Sent (Some i) (Some j) a b s e h can = subst (λ c. IsNamedStep p c s) (some_is _ a e) (j, subst (λ c. Can p c s) (sym (some_is _ b h)) can)
+of_named p act.Sent (Some i) (Some j) a b s e h can =
+    subst (λ c. IsNamedStep p c s) (some_is _ a e) (j, subst (λ c. Can p c s) (sym (some_is _ b h)) can)
 of_named p act.Answered None other a b s e h can = absurd (cc e)
 of_named p act.Answered (Some i) None a b s e h can = absurd (cc h)
-of_named p act.Answered (Some i) (Some j) a b s e h can = subst (λ c. IsNamedStep p c s) (some_is _ a e) (j, subst (λ c. Can p c s) (sym (some_is _ b h)) can)
+of_named p act.Answered (Some i) (Some j) a b s e h can =
+    subst (λ c. IsNamedStep p c s) (some_is _ a e) (j, subst (λ c. Can p c s) (sym (some_is _ b h)) can)
 of_named p act.FreeSeen None other a b s e h can = absurd (cc e)
 of_named p act.FreeSeen (Some i) None a b s e h can = absurd (cc h)
-of_named p act.FreeSeen (Some i) (Some j) a b s e h can = subst (λ c. IsNamedStep p c s) (some_is _ a e) (j, subst (λ c. Can p c s) (sym (some_is _ b h)) can)
-of_named p act.SentLost next other a b s e h can = subst (λ c. IsNamedStep p c s) (some_is _ a e) (subst (λ c. Can p c s) (sym (some_is _ b h)) can)
-of_named p act.TimeOut next other a b s e h can = subst (λ c. IsNamedStep p c s) (some_is _ a e) (subst (λ c. Can p c s) (sym (some_is _ b h)) can)
-of_named p act.TakeAnswer next other a b s e h can = subst (λ c. IsNamedStep p c s) (some_is _ a e) (subst (λ c. Can p c s) (sym (some_is _ b h)) can)
-of_named p act.LoseAnswer next other a b s e h can = subst (λ c. IsNamedStep p c s) (some_is _ a e) (subst (λ c. Can p c s) (sym (some_is _ b h)) can)
-of_named p act.SinkTakes next other a b s e h can = subst (λ c. IsNamedStep p c s) (some_is _ a e) (subst (λ c. Can p c s) (sym (some_is _ b h)) can)
-of_named p act.Silent next other a b s e h can = subst (λ c. IsNamedStep p c s) (some_is _ a e) (subst (λ c. Can p c s) (sym (some_is _ b h)) can)
-of_named p act.GiveUp next other a b s e h can = subst (λ c. IsNamedStep p c s) (some_is _ a e) (subst (λ c. Can p c s) (sym (some_is _ b h)) can)
+of_named p act.FreeSeen (Some i) (Some j) a b s e h can =
+    subst (λ c. IsNamedStep p c s) (some_is _ a e) (j, subst (λ c. Can p c s) (sym (some_is _ b h)) can)
+of_named p act.SentLost next other a b s e h can =
+    subst (λ c. IsNamedStep p c s) (some_is _ a e) (subst (λ c. Can p c s) (sym (some_is _ b h)) can)
+of_named p act.TimeOut next other a b s e h can =
+    subst (λ c. IsNamedStep p c s) (some_is _ a e) (subst (λ c. Can p c s) (sym (some_is _ b h)) can)
+of_named p act.TakeAnswer next other a b s e h can =
+    subst (λ c. IsNamedStep p c s) (some_is _ a e) (subst (λ c. Can p c s) (sym (some_is _ b h)) can)
+of_named p act.LoseAnswer next other a b s e h can =
+    subst (λ c. IsNamedStep p c s) (some_is _ a e) (subst (λ c. Can p c s) (sym (some_is _ b h)) can)
+of_named p act.SinkTakes next other a b s e h can =
+    subst (λ c. IsNamedStep p c s) (some_is _ a e) (subst (λ c. Can p c s) (sym (some_is _ b h)) can)
+of_named p act.Silent next other a b s e h can =
+    subst (λ c. IsNamedStep p c s) (some_is _ a e) (subst (λ c. Can p c s) (sym (some_is _ b h)) can)
+of_named p act.GiveUp next other a b s e h can =
+    subst (λ c. IsNamedStep p c s) (some_is _ a e) (subst (λ c. Can p c s) (sym (some_is _ b h)) can)
 
 -- what the link says of the step, said of its letter
-pub fault_of : (p : Contents) (x : Act) (next : Option Seen) (a : Step) (s : State) (e : StepFault) → step_with x next ≡ Some a → IsFault p a s e → IsStepFault p x next s e
+pub fault_of : (p : Contents) (x : Act) (next : Option Seen) (a : Step) (s : State) (e : StepFault)
+    → step_with x next ≡ Some a → IsFault p a s e → IsStepFault p x next s e
 fault_of p x next a s fault.NotAllowed is h = λ n. h (of_named p x next n.0 a n.1.0 s is n.1.1 n.1.2)
-fault_of p x next a s fault.WordDiffers is h = (named_of p x next a s is h.0, λ c. h.1 (subst (λ b. Can p b s) (some_is c.0 a (sym c.1 ∙ is)) c.2))
+fault_of p x next a s fault.WordDiffers is h =
+    (named_of p x next a s is h.0, λ c. h.1 (subst (λ b. Can p b s) (some_is c.0 a (sym c.1 ∙ is)) c.2))
 fault_of p x next a s fault.OutOfMemory is h = tt
 
 -- ---- letters without an entry
@@ -120,13 +137,15 @@ no_unit_is p is v unit.CheckWrong h u =
     h.4 (u.checked h.3 ∙ ap (check_of p.check) (sym same))
 no_unit_is p is v unit.OutOfMemory h u = h
 
-pub faults_of : {T : Type 0} (p : Contents) (x : Act) (next : Option Seen) (a : Step) (s : State) (r : Result T StepFault) → step_with x next ≡ Some a → IfErr r (λ e. IsFault p a s e) → IfErr r (λ e. IsStepFault p x next s e)
+pub faults_of : {T : Type 0} (p : Contents) (x : Act) (next : Option Seen) (a : Step) (s : State) (r : Result T StepFault)
+    → step_with x next ≡ Some a → IfErr r (λ e. IsFault p a s e) → IfErr r (λ e. IsStepFault p x next s e)
 faults_of p x next a s (Ok u) is h = h
 faults_of p x next a s (Err e) is h = fault_of p x next a s e is h
 
 -- ---- lines that were read
 
-pub unit_refused : (p : Contents) → IsProfile p → (s : State) (at : At) (l : LoadLine) (f : LduFault) (e : CertFault) → e ≡ no_unit f at.line
+pub unit_refused : (p : Contents)
+    → IsProfile p → (s : State) (at : At) (l : LoadLine) (f : LduFault) (e : CertFault) → e ≡ no_unit f at.line
     → (f ≢ unit.OutOfMemory → IsFirstLduFault p l.check l.words f) → RefusesLine p (Load l) at s e
 unit_refused p is s at l f e g first = λ h. rw g (by f first (λ q. h (g ∙ q)))
   where
@@ -135,13 +154,15 @@ unit_refused p is s at l f e g first = λ h. rw g (by f first (λ q. h (g ∙ q)
         let can : Can p (step.Load (listed_ldu l)) s = subst (λ b. Can p b s) (sym (some_is _ m.1.0 m.1.1)) m.1.2 in
         no_unit_is p is (listed_ldu l) f first can.3
 
-    by : (f : LduFault) → (f ≢ unit.OutOfMemory → IsFirstLduFault p l.check l.words f) → (no_unit f at.line ≢ of.OutOfMemory) → IsFaultOfRead p s at (Load l) (no_unit f at.line)
+    by : (f : LduFault) → (f ≢ unit.OutOfMemory → IsFirstLduFault p l.check l.words f) → (no_unit f at.line ≢ of.OutOfMemory)
+        → IsFaultOfRead p s at (Load l) (no_unit f at.line)
     by unit.Count first h = (tt, (refl, none unit.Count (first (λ q. cc q))))
     by unit.NotBytes first h = (tt, (refl, none unit.NotBytes (first (λ q. cc q))))
     by unit.CheckWrong first h = (tt, (refl, none unit.CheckWrong (first (λ q. cc q))))
     by unit.OutOfMemory first h = absurd (h refl)
 
-pub state_differs : (p : Contents) (l : MovedLine) (s t : State) (at : At) → MakesStep p (step_with l.act at.next) s t → (states_of t ≡ l.states → ⊥) → RefusesLine p (Moved l) at s (of.StateDiffers at.line)
+pub state_differs : (p : Contents) (l : MovedLine) (s t : State) (at : At)
+    → MakesStep p (step_with l.act at.next) s t → (states_of t ≡ l.states → ⊥) → RefusesLine p (Moved l) at s (of.StateDiffers at.line)
 state_differs p l s t at made other = λ _. by (step_with l.act at.next) refl made
   where
     by : (o : Option Step) → step_with l.act at.next ≡ o → MakesStep p o s t → IsFaultOfRead p s at (Moved l) (of.StateDiffers at.line)

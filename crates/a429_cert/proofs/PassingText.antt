@@ -36,19 +36,23 @@ unfolding line_in
 no_load bytes l e s = none-some l (option_map (λ x. Load x) (load_in bytes)) (ap (option_map (λ x. Load x)) e) (read-as (76 ∷ bytes) l s)
 
 -- where another letter stands first, and it begins no step
-pub no_move : (letter : ℕ) (bytes : List ℕ) (l : CertLine) → letter ≢ 76 → moved_in letter bytes ≡ None → IsOfAStep l → SpellsLine (letter ∷ bytes) l → ⊥
+pub no_move : (letter : ℕ) (bytes : List ℕ) (l : CertLine)
+    → letter ≢ 76 → moved_in letter bytes ≡ None → IsOfAStep l → SpellsLine (letter ∷ bytes) l → ⊥
 unfolding line_in
 no_move letter bytes l other e is s =
     elim (split (letter == 76) (option_map (λ x. Load x) (load_in bytes)) _ l (read-as (letter ∷ bytes) l s)) [
       | inl p ↦ other (is_same letter 76 p.0)
-      | inr r ↦ elim (split (letter == 102) (option_map (λ n. First n) (first_in (letter ∷ bytes))) (option_map (λ x. Moved x) (moved_in letter bytes)) l r) [
-        | inl p ↦ first-none (first_in (letter ∷ bytes)) l p.1 is
-        | inr q ↦ none-some l (option_map (λ x. Moved x) (moved_in letter bytes)) (ap (option_map (λ x. Moved x)) e) q
-      ]
+      | inr r ↦
+          elim (split (letter == 102) (option_map (λ n. First n) (first_in (letter ∷ bytes)))
+          (option_map (λ x. Moved x) (moved_in letter bytes)) l r) [
+            | inl p ↦ first-none (first_in (letter ∷ bytes)) l p.1 is
+            | inr q ↦ none-some l (option_map (λ x. Moved x) (moved_in letter bytes)) (ap (option_map (λ x. Moved x)) e) q
+          ]
     ]
 
 -- the fault of a line that was read is that of its text
-pub fault-read : (p : Contents) (s : State) (next : Option Seen) (n i : ℕ) (text : List ℕ) (l : CertLine) (f : CertFault) → SpellsLine text l → IsOfAStep l → IsFaultOfRead p s (at_line n i next) l f → IsFaultOfLine p s (at_line n i next) (Some text) f
+pub fault-read : (p : Contents) (s : State) (next : Option Seen) (n i : ℕ) (text : List ℕ) (l : CertLine) (f : CertFault)
+    → SpellsLine text l → IsOfAStep l → IsFaultOfRead p s (at_line n i next) l f → IsFaultOfLine p s (at_line n i next) (Some text) f
 fault-read p s next n i text l of.Version spells is h = (l, spells, h.0, h.1)
 fault-read p s next n i text l (of.Line m) spells is h = absurd (h.1 is)
 fault-read p s next n i text l (of.NotAllowed m) spells is h = (l, spells, h.0, h.1)
@@ -66,11 +70,13 @@ lists-step (listed.Moved m) (Moved l) h = tt
 lists-step (listed.Moved m) (First n) h = h
 lists-step (listed.Moved m) (Load l) h = tt
 
-pub fault-listed : (p : Contents) (text : Option (List ℕ)) (x : Listed) (at : At) (s : State) (f : CertFault) → Lists p text x s → RefusesListed p x at s f → RefusesText p text at s f
+pub fault-listed : (p : Contents) (text : Option (List ℕ)) (x : Listed) (at : At) (s : State) (f : CertFault)
+    → Lists p text x s → RefusesListed p x at s f → RefusesText p text at s f
 fault-listed p None x at s f h r = absurd h.1
 fault-listed p (Some text) x at s f h r = λ z. fault-read p s at.next at.line at.entry text h.0 f h.1 (lists-step x h.0 h.2) (r h.0 h.2 z)
 
 -- what lists a step in each state lists it in this one
-pub listed_here : (r : Result Listed CertFault) (p : Contents) (text : Option (List ℕ)) (s : State) → IfOk r (λ x. (s : State) → Lists p text x s) → IfOk r (λ x. Lists p text x s)
+pub listed_here : (r : Result Listed CertFault) (p : Contents) (text : Option (List ℕ)) (s : State)
+    → IfOk r (λ x. (s : State) → Lists p text x s) → IfOk r (λ x. Lists p text x s)
 listed_here (Ok x) p text s h = h s
 listed_here (Err f) p text s h = tt

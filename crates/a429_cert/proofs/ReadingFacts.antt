@@ -43,7 +43,8 @@ words_at-back : (words : List ℕ) → AllByRecursion (λ w. w < 2 ^ 32) words �
 unfolding words_at
 words_at-back [] h = refl
 words_at-back (w ∷ ws) h =
-    rw (field-back (hex_in 8) (numeral 16 8) (λ n. n < 16 ^ 8) (numerals 8) w (words_text ws) h.0 (words-next ws), words_at-back ws h.1) refl
+    rw (field-back (hex_in 8) (numeral 16 8) (λ n. n < 16 ^ 8) (numerals 8) w (words_text ws) h.0 (words-next ws), words_at-back ws h.1)
+    refl
 
 -- what was read of the words: they are spelled, and of 32 bits
 record AreWords (text : List ℕ) (count : ℕ) (words : List ℕ) : Type 0 where
@@ -81,8 +82,10 @@ words_in-only text words e =
     let tests = when_some (nat_le 1 count && nat_le count most_data_words) count c.0 c.1 in
     let parts = and_parts (nat_le 1 count) (nat_le count most_data_words) tests.0 in
     let are = words_at-only c.0 text words c.2 in
-    let many : length words ≡ count = are.many ∙ sym tests.1 in
-    (record { spelled = are.spelled; held = are.held; many = refl }, (omega (arith, below 1 count parts.0), omega (arith, below count most_data_words parts.1)))
+    let many : length words ≡ count = are.many ∙ sym tests.1 in (
+      record { spelled = are.spelled; held = are.held; many = refl },
+      (omega (arith, below 1 count parts.0), omega (arith, below count most_data_words parts.1)),
+    )
 
 -- ---- lines, as they are spelled
 
@@ -94,8 +97,11 @@ first-back : (file : ℕ) → file < 2 ^ 8 → line_in (spelling (First file)) �
 unfolding line_in first_in
 first-back file h = rw (last_decimal-back file h) refl
 
-load-text : (l : LoadLine) → spelling (Load l) ≡ codes "L" ++ (field (numeral 16 1 l.gfi) ++ (field (numeral 16 1 l.flags) ++ (field (numeral 16 4 l.check) ++ words_text l.words)))
-load-text l = grouped (codes "L") (field (numeral 16 1 l.gfi)) (field (numeral 16 1 l.flags)) (field (numeral 16 4 l.check)) (words_text l.words)
+load-text : (l : LoadLine)
+    → spelling (Load l) ≡ codes "L"
+    ++ (field (numeral 16 1 l.gfi) ++ (field (numeral 16 1 l.flags) ++ (field (numeral 16 4 l.check) ++ words_text l.words)))
+load-text l =
+    grouped (codes "L") (field (numeral 16 1 l.gfi)) (field (numeral 16 1 l.flags)) (field (numeral 16 4 l.check)) (words_text l.words)
 
 -- a link data unit
 load-back : (l : LoadLine) → IsLine (Load l) → IsHeld (Load l) → line_in (spelling (Load l)) ≡ Some (Load l)
@@ -112,7 +118,9 @@ load-back l is held =
     ) refl
 
 moved-text : (l : MovedLine) → spelling (Moved l) ≡ act_text l.act ++ states_text l.states
-moved-text l = grouped (act_text l.act) (field (source_text l.states.source)) (field (sink_text l.states.sink)) (field (decimal l.states.to_sink)) (field (decimal l.states.to_source))
+moved-text l =
+    grouped (act_text l.act) (field (source_text l.states.source)) (field (sink_text l.states.sink)) (field (decimal l.states.to_sink))
+    (field (decimal l.states.to_source))
 
 -- the letter of a step is none of another line
 act-line : (act : Act) (more : List ℕ) → line_in (act_text act ++ more) ≡ option_map (λ l. Moved l) (moved_in (act_byte act) more)
@@ -158,7 +166,8 @@ first-only bytes file e =
     record {
       line = tt;
       held = last.1;
-      spelled = sym (take-append-drop 5 bytes) ∙ ap (λ t. t ++ drop 5 bytes) (same_text (take 5 bytes) (codes "first") is.0) ∙ ap (λ t. codes "first" ++ t) (is.1 ∙ last.0);
+      spelled = sym (take-append-drop 5 bytes) ∙ ap (λ t. t ++ drop 5 bytes) (same_text (take 5 bytes) (codes "first") is.0)
+          ∙ ap (λ t. codes "first" ++ t) (is.1 ∙ last.0);
     }
 
 pub load-only : (bytes : List ℕ) (l : LoadLine) → load_in bytes ≡ Some l → SpellsLine (codes "L" ++ bytes) (Load l)
@@ -172,8 +181,10 @@ load-only bytes l e =
     let second = field-only (hex_in 1) (numeral 16 1) (λ n. n < 16 ^ 1) (numerals 1) gfi.0.1 flags.0 flags.1 in
     let third = field-only (hex_in 4) (numeral 16 4) (λ n. n < 16 ^ 4) (numerals 4) flags.0.1 check.0 check.1 in
     let rest = words_in-only check.0.1 words.0 words.1 in
-    let text : bytes ≡ field (numeral 16 1 gfi.0.0) ++ (field (numeral 16 1 flags.0.0) ++ (field (numeral 16 4 check.0.0) ++ words_text words.0)) =
-    first.0 ∙ ap (λ t. field (numeral 16 1 gfi.0.0) ++ t) (second.0 ∙ ap (λ t. field (numeral 16 1 flags.0.0) ++ t) (third.0 ∙ ap (λ t. field (numeral 16 4 check.0.0) ++ t) rest.0.spelled)) in
+    let text : bytes ≡ field (numeral 16 1 gfi.0.0)
+    ++ (field (numeral 16 1 flags.0.0) ++ (field (numeral 16 4 check.0.0) ++ words_text words.0)) =
+    first.0 ∙ ap (λ t. field (numeral 16 1 gfi.0.0) ++ t)
+    (second.0 ∙ ap (λ t. field (numeral 16 1 flags.0.0) ++ t) (third.0 ∙ ap (λ t. field (numeral 16 4 check.0.0) ++ t) rest.0.spelled)) in
     let read : LoadLine = record { gfi = gfi.0.0; flags = flags.0.0; check = check.0.0; words = words.0 } in
     subst (λ (x : LoadLine). SpellsLine (codes "L" ++ bytes) (Load x)) (some_is read l words.2) (record {
       line = (omega (arith, first.1), omega (arith, second.1), rest.1.0, rest.1.1);
@@ -201,11 +212,16 @@ line-only (b ∷ bytes) l e =
     elim (split (b == 76) (option_map (λ x. Load x) (load_in bytes)) _ l e) [
       | inl p ↦
           let x = mapped (λ x. Load x) (load_in bytes) l p.1 in
-          subst (λ (c : ℕ). SpellsLine (c ∷ bytes) l) (sym (is_same b 76 p.0)) (subst (SpellsLine (76 ∷ bytes)) x.2 (load-only bytes x.0 x.1))
-      | inr r ↦ elim (split (b == 102) (option_map (λ n. First n) (first_in (b ∷ bytes))) (option_map (λ x. Moved x) (moved_in b bytes)) l r) [
-        | inl p ↦ let n = mapped (λ n. First n) (first_in (b ∷ bytes)) l p.1 in subst (SpellsLine (b ∷ bytes)) n.2 (first-only (b ∷ bytes) n.0 n.1)
-        | inr q ↦ let x = mapped (λ x. Moved x) (moved_in b bytes) l q in subst (SpellsLine (b ∷ bytes)) x.2 (moved-only b bytes x.0 x.1)
-      ]
+          subst (λ (c : ℕ). SpellsLine (c ∷ bytes) l) (sym (is_same b 76 p.0))
+          (subst (SpellsLine (76 ∷ bytes)) x.2 (load-only bytes x.0 x.1))
+      | inr r ↦
+          elim (split (b == 102) (option_map (λ n. First n) (first_in (b ∷ bytes))) (option_map (λ x. Moved x) (moved_in b bytes)) l r) [
+            | inl p ↦
+                let n = mapped (λ n. First n) (first_in (b ∷ bytes)) l p.1 in
+                subst (SpellsLine (b ∷ bytes)) n.2 (first-only (b ∷ bytes) n.0 n.1)
+            | inr q ↦
+                let x = mapped (λ x. Moved x) (moved_in b bytes) l q in subst (SpellsLine (b ∷ bytes)) x.2 (moved-only b bytes x.0 x.1)
+          ]
     ]
 
 -- ---- what bytes are read as

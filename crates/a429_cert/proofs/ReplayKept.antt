@@ -1,4 +1,5 @@
--- Small facts that the goals of a replay cite: what it keeps where one call follows another, which faults are of a device, of the certificate or of the recording, and how much two lines are.
+-- Small facts that the goals of a replay cite: what it keeps where one call follows another, which faults are of a device, of the
+-- certificate or of the recording, and how much two lines are.
 use Rattle.std.proofs.Common.{◌≡◌, ◌∙◌, ◌⊎◌, ◌≤◌, ◌+◌, ◌++◌, ◌∷◌, [], inl, inr, ℕ, List, length, Bool, true, false, Option, Some, None, IsSome, refl, ap, sym, subst, arith}
 use Rattle.std.proofs.lemmas.List.{length-append}
 use Rattle.a429_link.specs.Link.{LinkValue, handed_out}
@@ -28,7 +29,8 @@ pub kept_one : (old new : Replay) → new ≡ record old { link = new.link } →
 kept_one old new e = e ∙ ap (λ files. record old { link = new.link; files = files }) (sym (ap (λ (w : Replay). w.files) e))
 
 -- its link changes, and then its files are handed out
-pub kept_both : (old mid new : Replay) → mid ≡ record old { link = mid.link } → HandsFilesOut mid new → new ≡ record old { link = new.link; files = new.files }
+pub kept_both : (old mid new : Replay)
+    → mid ≡ record old { link = mid.link } → HandsFilesOut mid new → new ≡ record old { link = new.link; files = new.files }
 kept_both old mid new e h =
     h ∙ ap (λ (w : Replay). record w { link = record (mid.link) { state = handed_out mid.link.state }; files = new.files }) e
     ∙ ap (λ (l : LinkValue). record old { link = l; files = new.files }) (sym (ap (λ (w : Replay). w.link) h))
@@ -93,7 +95,8 @@ only_reader cert (inr (inl e)) = absurd (cc e)
 only_reader cert (inr (inr e)) = absurd (cc e)
 
 -- the head of a certificate is refused before the recording is looked at
-pub head_not_read : (Holds : List ℕ → CertFault → Type 0) (old : Option (List ℕ)) (f : StreamFault) (g : ReadFault) → RefusesHead Holds old f → f ≡ stream.Read g → ⊥
+pub head_not_read : (Holds : List ℕ → CertFault → Type 0) (old : Option (List ℕ)) (f : StreamFault) (g : ReadFault)
+    → RefusesHead Holds old f → f ≡ stream.Read g → ⊥
 head_not_read Holds None (stream.Read f) g h e = absurd h
 head_not_read Holds (Some xs) (stream.Read f) g h e = absurd h
 head_not_read Holds old (stream.Cert f) g h e = cc e

@@ -84,7 +84,8 @@ no_files p zero s e = e
 no_files p (suc n) s e = no_files p n _ e
 
 -- none are there where a part begins
-pub begun_no_files : (p : Contents) (o : Option LinkValue) (first : ℕ) → IsBetweenParts p o → (begun p (option_map (λ (l : LinkValue). l.state) o) first).sink.received.files ≡ []
+pub begun_no_files : (p : Contents) (o : Option LinkValue) (first : ℕ)
+    → IsBetweenParts p o → (begun p (option_map (λ (l : LinkValue). l.state) o) first).sink.received.files ≡ []
 begun_no_files p None first h = refl
 begun_no_files p (Some l) first h = no_files p (gap l.state first) l.state h.1
 
@@ -97,52 +98,89 @@ module _ (old : SeriesValue) (d : Head) where
   abbrev pub IsIn : ℕ → ℕ → List FileBytes → State → Option (List ℕ) → Option Recording → List ℕ → Recording → Type 0
   IsIn k i taken s left rec text r = StandsFrom old.profile from text r d k i taken s left rec
 
-  pub part_init : (s : State) (known before left : Option (List ℕ)) (rec : Option Recording) → before ≡ known → TakesHead before left d → s ≡ from → WhereBothKnown known rec (IsIn 0 0 [] s left rec)
+  pub part_init : (s : State) (known before left : Option (List ℕ)) (rec : Option Recording)
+      → before ≡ known → TakesHead before left d → s ≡ from → WhereBothKnown known rec (IsIn 0 0 [] s left rec)
   part_init s None before left rec e h z = tt
   part_init s (Some text) before left None e h z = tt
   part_init s (Some text) before left (Some r) e h z = by left (subst (λ o. TakesHead o left d) e h)
     where
       by : (left : Option (List ℕ)) → TakesHead (Some text) left d → IsIn 0 0 [] s left (Some r) text r
       by None h = absurd h
-      by (Some ys) h = record { says = h.0; lines = (ys, refl, h.1); inside = omega arith; reached = begins_at old.profile from (with_earlier [] s) z; rest = refl }
+      by (Some ys) h = record {
+        says = h.0;
+        lines = (ys, refl, h.1);
+        inside = omega arith;
+        reached = begins_at old.profile from (with_earlier [] s) z;
+        rest = refl;
+      }
 
   module _ (k i : ℕ) (taken : List FileBytes) (s : State) (known left more held : Option (List ℕ)) (first rec : Option Recording) where
-    pub part_on : (used : ℕ) (t : State) (new : Option Recording) → GivesLine left more held true → PassesOver old.profile (read_as d.version held) (change s t) (change rec new) used
-        → WhereBothKnown known first (IsIn k i taken s left rec) → WhereBothKnown known first (IsIn (suc k) (i + used) (taken ++ t.sink.received.files) (handed_out t) more new)
+    pub part_on : (used : ℕ) (t : State) (new : Option Recording)
+        → GivesLine left more held true → PassesOver old.profile (read_as d.version held) (change s t) (change rec new) used
+        → WhereBothKnown known first (IsIn k i taken s left rec)
+        → WhereBothKnown known first (IsIn (suc k) (i + used) (taken ++ t.sink.received.files) (handed_out t) more new)
     part_on used t new g m =
-        both_known_map known first (IsIn k i taken s left rec) (IsIn (suc k) (i + used) (taken ++ t.sink.received.files) (handed_out t) more new)
-        (λ text r h. hands_from old.profile from text r d (suc k) (i + used) taken t more new (goes_from old.profile from text r d k i used taken s t held left more rec new h g m))
+        both_known_map known first (IsIn k i taken s left rec)
+        (IsIn (suc k) (i + used) (taken ++ t.sink.received.files) (handed_out t) more new)
+        (λ text r h. hands_from old.profile from text r d (suc k) (i + used) taken t more new
+        (goes_from old.profile from text r d k i used taken s t held left more rec new h g m))
 
     -- ---- a line that is refused
 
     cert_part : (f : CertFault) (text : List ℕ) (r : Recording) → EndsAt r f
-        → IsFaultAt old.profile (with_earlier taken s) (at_line (k + 3) i (slice_get (items_of r.entries) i)) (slice_get (step_lines d.version text) k) f
+        → IsFaultAt old.profile (with_earlier taken s) (at_line (k + 3) i (slice_get (items_of r.entries) i))
+        (slice_get (step_lines d.version text) k) f
         → IsIn k i taken s left rec text r → IsPartFault old (stream.Cert f) text r
-    cert_part f text r ends g h = inr (record { k = k; i = i; state = with_earlier taken s; before = record { head = d; says = h.says; inside = h.inside; before = h.reached }; fault = g; ends = ends })
+    cert_part f text r ends g h =
+        inr (record {
+          k = k;
+          i = i;
+          state = with_earlier taken s;
+          before = record { head = d; says = h.says; inside = h.inside; before = h.reached };
+          fault = g;
+          ends = ends;
+        })
 
-    read_part : (f : ReadFault) (text : List ℕ) (r : Recording) → WantsNext old.profile (slice_get (step_lines d.version text) k) (with_earlier taken s) → Stops f (left_after i r) → f ≢ read.OutOfMemory
+    read_part : (f : ReadFault) (text : List ℕ) (r : Recording)
+        → WantsNext old.profile (slice_get (step_lines d.version text) k) (with_earlier taken s) → Stops f (left_after i r)
+        → f ≢ read.OutOfMemory
         → IsIn k i taken s left rec text r → IsPartFault old (stream.Read f) text r
     read_part f text r wants stops reports h =
-        record { k = k; i = i; state = with_earlier taken s; before = record { head = d; says = h.says; inside = h.inside; before = h.reached }; wants = wants; fault = stops; reports = reports }
+        record {
+          k = k;
+          i = i;
+          state = with_earlier taken s;
+          before = record { head = d; says = h.says; inside = h.inside; before = h.reached };
+          wants = wants;
+          fault = stops;
+          reports = reports;
+        }
 
-    line_part : (f : StreamFault) (text : List ℕ) (r : Recording) → GivesLine left more held true → RefusesOver old.profile (read_as d.version held) (position s (Some (left_after i r)) i) (k + 3) f
+    line_part : (f : StreamFault) (text : List ℕ) (r : Recording)
+        → GivesLine left more held true → RefusesOver old.profile (read_as d.version held) (position s (Some (left_after i r)) i) (k + 3) f
         → IsIn k i taken s left rec text r → IsPartFault old f text r
     line_part (stream.Cert f) text r g m h =
-        cert_part f text r (ends_at old.profile s r (k + 3) i (read_as d.version held) f m.0 m.1) (fault_from old.profile from d k i taken s held left more rec f text r g m.0 h) h
+        cert_part f text r (ends_at old.profile s r (k + 3) i (read_as d.version held) f m.0 m.1)
+        (fault_from old.profile from d k i taken s held left more rec f text r g m.0 h) h
     line_part (stream.Read f) text r g m h =
-        read_part f text r (wants_line old.profile d.version k taken s held left more (drop 2 (certificate_lines text)) g h.lines m.0) m.1 m.2 h
+        read_part f text r
+        (wants_line old.profile d.version k taken s held left more (drop 2 (certificate_lines text)) g h.lines m.0) m.1 m.2 h
     line_part stream.Device text r g m h = tt
     line_part stream.OutOfMemory text r g m h = tt
 
-    pub part_refused : (n : ℕ) (f : StreamFault) → n ≡ k + 3 → GivesLine left more held true → RefusesOver old.profile (read_as d.version held) (position s rec i) n f
+    pub part_refused : (n : ℕ) (f : StreamFault)
+        → n ≡ k + 3 → GivesLine left more held true → RefusesOver old.profile (read_as d.version held) (position s rec i) n f
         → WhereBothKnown known first (IsIn k i taken s left rec) → RefusesPart old known first f
     part_refused n f e g m =
         both_known_map known first (IsIn k i taken s left rec) (IsPartFault old f)
-        (λ text r h. line_part f text r g (subst (λ (j : ℕ). RefusesOver old.profile (read_as d.version held) (position s (Some (left_after i r)) i) j f) e (subst (λ o. RefusesOver old.profile (read_as d.version held) (position s o i) n f) h.rest m)) h)
+        (λ text r h. line_part f text r g
+        (subst (λ (j : ℕ). RefusesOver old.profile (read_as d.version held) (position s (Some (left_after i r)) i) j f) e
+        (subst (λ o. RefusesOver old.profile (read_as d.version held) (position s o i) n f) h.rest m)) h)
 
     -- ---- after the last line
 
-    late_read : (f : ReadFault) (text : List ℕ) (r : Recording) (new : Option Recording) → GivesLine left more held false → Stops f (left_after i r) → IsIn k i taken s left rec text r → IsPartFault old (of_read f) text r
+    late_read : (f : ReadFault) (text : List ℕ) (r : Recording) (new : Option Recording)
+        → GivesLine left more held false → Stops f (left_after i r) → IsIn k i taken s left rec text r → IsPartFault old (of_read f) text r
     late_read f text r new g stops h = by f stops
       where
         wants : WantsNext old.profile (slice_get (step_lines d.version text) k) (with_earlier taken s)
@@ -157,7 +195,8 @@ module _ (old : SeriesValue) (d : Head) where
         by read.OutOfMemory stops = tt
         by read.Failed stops = read_part read.Failed text r wants stops (λ z. cc) h
 
-    pub part_late : (new : Option Recording) (f : StreamFault) → GivesLine left more held false → EndsLate i rec new f → WhereBothKnown known first (IsIn k i taken s left rec) → RefusesPart old known first f
+    pub part_late : (new : Option Recording) (f : StreamFault) → GivesLine left more held false → EndsLate i rec new f
+        → WhereBothKnown known first (IsIn k i taken s left rec) → RefusesPart old known first f
     part_late new f g (inl e) =
         both_known_map known first (IsIn k i taken s left rec) (IsPartFault old f)
         (λ text r h.
@@ -171,14 +210,18 @@ module _ (old : SeriesValue) (d : Head) where
         (late_read e.0 text r new g (subst (λ o. GivesNext o new (Err e.0)) h.rest e.1) h))
 
     -- all lines are passed, and all entries used
-    fits : (new : Option Recording) (joined : SeriesValue) (text : List ℕ) (r : Recording) → s.sink.received.files ≡ [] → GivesLine left more held false → GivesNext rec new (Ok None) → joined.state ≡ Some s → joined.entries ≡ i
+    fits : (new : Option Recording) (joined : SeriesValue) (text : List ℕ) (r : Recording) → s.sink.received.files ≡ []
+        → GivesLine left more held false → GivesNext rec new (Ok None) → joined.state ≡ Some s → joined.entries ≡ i
         → IsIn k i taken s left rec text r → Fits old joined taken text r
     fits new joined text r none g e is used h =
         let end : left_after i r ≡ whole [] = subst (λ o. GivesNext o new (Ok None)) h.rest e in
         let items = items_of r.entries in
         let lines = step_lines d.version text in
         let all : length items ≤ i = none_past items i (sym (next_at r.entries i) ∙ ap next_of end) in
-        let past : length lines ≤ k = none_past lines k (none_read d.version (drop 2 (certificate_lines text)) k (none_next (drop 2 (certificate_lines text)) k left more held h.lines g)) in
+        let past : length lines ≤ k =
+        none_past lines k
+        (none_read d.version (drop 2 (certificate_lines text)) k
+        (none_next (drop 2 (certificate_lines text)) k left more held h.lines g)) in
         record {
           head = d;
           says = h.says;
@@ -197,14 +240,17 @@ module _ (old : SeriesValue) (d : Head) where
             with_files : State → List FileBytes → State
             with_files s l = record s { sink = record (s.sink) { received = record (s.sink.received) { files = l } } }
 
-    pub part_fits : (new : Option Recording) (joined : SeriesValue) → s.sink.received.files ≡ [] → GivesLine left more held false → GivesNext rec new (Ok None) → joined.state ≡ Some s → joined.entries ≡ i
+    pub part_fits : (new : Option Recording) (joined : SeriesValue) → s.sink.received.files ≡ [] → GivesLine left more held false
+        → GivesNext rec new (Ok None) → joined.state ≡ Some s → joined.entries ≡ i
         → WhereBothKnown known first (IsIn k i taken s left rec) → WhereBothKnown known first (Fits old joined taken)
     part_fits new joined none g e is used =
-        both_known_map known first (IsIn k i taken s left rec) (Fits old joined taken) (λ text r h. fits new joined text r none g e is used h)
+        both_known_map known first (IsIn k i taken s left rec) (Fits old joined taken)
+        (λ text r h. fits new joined text r none g e is used h)
 
 -- ---- the first two lines are refused
 
-pub part_head : (old : SeriesValue) (known before : Option (List ℕ)) (rec : Option Recording) (f : StreamFault) → before ≡ known → RefusesHead IsFaultOfHead before f → RefusesPart old known rec f
+pub part_head : (old : SeriesValue) (known before : Option (List ℕ)) (rec : Option Recording) (f : StreamFault)
+    → before ≡ known → RefusesHead IsFaultOfHead before f → RefusesPart old known rec f
 part_head old None before rec f e h = tt
 part_head old (Some text) before None f e h = tt
 part_head old (Some text) before (Some r) f e h = by f (subst (λ o. RefusesHead IsFaultOfHead o f) e h)
@@ -216,7 +262,8 @@ part_head old (Some text) before (Some r) f e h = by f (subst (λ o. RefusesHead
     by stream.OutOfMemory h = tt
 
 -- a device has failed, or memory was refused
-pub part_stopped : (old : SeriesValue) (known : Option (List ℕ)) (rec : Option Recording) (f : StreamFault) → (f ≡ stream.Device) ⊎ (f ≡ stream.OutOfMemory) → RefusesPart old known rec f
+pub part_stopped : (old : SeriesValue) (known : Option (List ℕ)) (rec : Option Recording) (f : StreamFault)
+    → (f ≡ stream.Device) ⊎ (f ≡ stream.OutOfMemory) → RefusesPart old known rec f
 part_stopped old None rec f e = tt
 part_stopped old (Some text) None f e = tt
 part_stopped old (Some text) (Some r) stream.Device e = tt
@@ -227,9 +274,14 @@ part_stopped old (Some text) (Some r) (stream.Read f) (inl e) = absurd (cc e)
 part_stopped old (Some text) (Some r) (stream.Read f) (inr e) = absurd (cc e)
 
 -- a line is not gone on from
-pub part_stops : {S : Type 0} {shelved : S → Option (List PutFile)} {failed : S → Bool} {listener : Bool} {before after : S} (old : SeriesValue) (replay : Replay) (d : Head) (k : ℕ) (taken : List FileBytes) (known left more held text : Option (List ℕ)) (first : Option Recording) (rec new : EntriesLeft) (f : StreamFault)
+pub part_stops : {S : Type 0} {shelved : S → Option (List PutFile)} {failed : S → Bool} {listener : Bool} {before after : S}
+    (old : SeriesValue) (replay : Replay) (d : Head) (k : ℕ) (taken : List FileBytes) (known left more held text : Option (List ℕ))
+    (first : Option Recording) (rec new : EntriesLeft) (f : StreamFault)
     → replay.profile.now ≡ old.profile → replay.version ≡ d.version → replay.lines ≡ k + 3 → text ≡ held → GivesLine left more held true
-    → WhereBothKnown known first (IsIn old d k replay.used taken replay.link.state left rec.to_come) → StopsAt shelved failed listener (taking replay text (change rec new) (change before after)) f → RefusesPart old known first f
+    → WhereBothKnown known first (IsIn old d k replay.used taken replay.link.state left rec.to_come)
+    → StopsAt shelved failed listener (taking replay text (change rec new) (change before after)) f → RefusesPart old known first f
 part_stops old replay d k taken known left more held text first rec new f profile version n same given reports (inl h) =
-    part_refused old d k replay.used taken replay.link.state known left more held first rec.to_come replay.lines f n given (refused_here old.profile replay d held text rec.to_come f profile version same h.ends) reports
-part_stops old replay d k taken known left more held text first rec new f profile version n same given reports (inr h) = part_stopped old known first f h.fault
+    part_refused old d k replay.used taken replay.link.state known left more held first rec.to_come replay.lines f n given
+    (refused_here old.profile replay d held text rec.to_come f profile version same h.ends) reports
+part_stops old replay d k taken known left more held text first rec new f profile version n same given reports (inr h) =
+    part_stopped old known first f h.fault

@@ -55,11 +55,14 @@ nothing_recorded (suc n) = nothing_recorded n
 
 -- ---- files that were handed out before
 
-run_earlier : (p : Contents) (steps : List Step) (files : List FileBytes) (s : State) → IsRun p steps s → IsRun p steps (with_earlier files s)
+run_earlier : (p : Contents) (steps : List Step) (files : List FileBytes) (s : State)
+    → IsRun p steps s → IsRun p steps (with_earlier files s)
 run_earlier p [] files s h = tt
-run_earlier p (a ∷ steps) files s h = (can_earlier p a files s h.0, subst (IsRun p steps) (sym (after_earlier p a files s)) (run_earlier p steps files (after p a s) h.1))
+run_earlier p (a ∷ steps) files s h =
+    (can_earlier p a files s h.0, subst (IsRun p steps) (sym (after_earlier p a files s)) (run_earlier p steps files (after p a s) h.1))
 
-end_earlier : (p : Contents) (steps : List Step) (files : List FileBytes) (s : State) → end_of p steps (with_earlier files s) ≡ with_earlier files (end_of p steps s)
+end_earlier : (p : Contents) (steps : List Step) (files : List FileBytes) (s : State)
+    → end_of p steps (with_earlier files s) ≡ with_earlier files (end_of p steps s)
 end_earlier p [] files s = refl
 end_earlier p (a ∷ steps) files s = ap (end_of p steps) (after_earlier p a files s) ∙ end_earlier p steps files (after p a s)
 
@@ -67,33 +70,49 @@ end_earlier p (a ∷ steps) files s = ap (end_of p steps) (after_earlier p a fil
 
 -- a run that goes on
 run_on : (p : Contents) (s last : State) (items more : List Seen) (files : List FileBytes) (steps : List Step)
-    → IsRunTo p s items files → IsRun p steps s → trace steps ≡ more → end_of p steps s ≡ last → IsRunTo p (handed_out last) (items ++ more) (files ++ last.sink.received.files)
+    → IsRunTo p s items files → IsRun p steps s → trace steps ≡ more → end_of p steps s ≡ last
+    → IsRunTo p (handed_out last) (items ++ more) (files ++ last.sink.received.files)
 run_on p s last items more files steps h run records ends =
-    let there : end_of p steps (end_of p h.steps (start p h.first)) ≡ with_earlier files last = ap (end_of p steps) h.ends ∙ end_earlier p steps files s ∙ ap (with_earlier files) ends in
+    let there : end_of p steps (end_of p h.steps (start p h.first)) ≡ with_earlier files last =
+    ap (end_of p steps) h.ends ∙ end_earlier p steps files s ∙ ap (with_earlier files) ends in
     record {
       first = h.first;
       byte = h.byte;
       steps = h.steps ++ steps;
       run = run_append p h.steps steps (start p h.first) h.run (subst (IsRun p steps) (sym h.ends) (run_earlier p steps files s run));
-      recorded = trace_append h.steps steps ∙ ap (λ (l : List Seen). l ++ trace steps) h.recorded ∙ ap (λ (l : List Seen). items ++ l) records;
+      recorded =
+          trace_append h.steps steps ∙ ap (λ (l : List Seen). l ++ trace steps) h.recorded ∙ ap (λ (l : List Seen). items ++ l) records;
       ends = end_append p h.steps steps (start p h.first) ∙ there ∙ sym (handed_earlier files last);
       none = refl;
     }
 
 -- a run that begins
 run_first : (p : Contents) (first : ℕ) (last : State) (more : List Seen) (steps : List Step)
-    → first ≤ 255 → IsRun p steps (start p first) → trace steps ≡ more → end_of p steps (start p first) ≡ last → IsRunTo p (handed_out last) more (last.sink.received.files)
+    → first ≤ 255 → IsRun p steps (start p first) → trace steps ≡ more → end_of p steps (start p first) ≡ last
+    → IsRunTo p (handed_out last) more (last.sink.received.files)
 run_first p first last more steps byte run records ends =
-    record { first = first; byte = byte; steps = steps; run = run; recorded = records; ends = ends ∙ sym (handed_earlier [] last); none = refl }
+    record {
+      first = first;
+      byte = byte;
+      steps = steps;
+      run = run;
+      recorded = records;
+      ends = ends ∙ sym (handed_earlier [] last);
+      none = refl;
+    }
 
-part_past : (old new : SeriesValue) (more : List FileBytes) (text : List ℕ) (r : Recording) (items : List Seen) (files : List FileBytes) (state : Option State)
-    → old.state ≡ state → (f : Fits old new more text r) → IsPast old.profile state items files → IsPast old.profile (Some (handed_out f.last)) (items ++ items_of r.entries) (files ++ more)
+part_past : (old new : SeriesValue) (more : List FileBytes) (text : List ℕ) (r : Recording) (items : List Seen) (files : List FileBytes)
+    (state : Option State)
+    → old.state ≡ state → (f : Fits old new more text r) → IsPast old.profile state items files
+    → IsPast old.profile (Some (handed_out f.last)) (items ++ items_of r.entries) (files ++ more)
 part_past old new more text r items files None e f h =
     let p = old.profile in
     let first = f.head.first in
     let lines = step_lines f.head.version text in
     let leads = subst (λ o. Leads p (begun p o first) lines (items_of r.entries) f.last) e f.leads in
-    let run = run_first p first f.last (items_of r.entries) leads.steps f.says.1.0 (lists_run p lines leads.steps (start p first) leads.lists) leads.used (sym leads.ends) in
+    let run =
+    run_first p first f.last (items_of r.entries) leads.steps f.says.1.0
+    (lists_run p lines leads.steps (start p first) leads.lists) leads.used (sym leads.ends) in
     rw (h.0, h.1, f.delivers) run
 part_past old new more text r items files (Some s) e f h =
     let p = old.profile in
@@ -102,8 +121,10 @@ part_past old new more text r items files (Some s) e f h =
     let between = give_ups (gap s first) in
     let from = end_of p between s in
     let leads = subst (λ o. Leads p (begun p o first) lines (items_of r.entries) f.last) e f.leads in
-    let run : IsRun p (between ++ leads.steps) s = run_append p between leads.steps s (gap_run p s first) (lists_run p lines leads.steps from leads.lists) in
-    let records : trace (between ++ leads.steps) ≡ items_of r.entries = trace_append between leads.steps ∙ ap (λ (l : List Seen). l ++ trace leads.steps) (nothing_recorded (gap s first)) ∙ leads.used in
+    let run : IsRun p (between ++ leads.steps) s =
+    run_append p between leads.steps s (gap_run p s first) (lists_run p lines leads.steps from leads.lists) in
+    let records : trace (between ++ leads.steps) ≡ items_of r.entries =
+    trace_append between leads.steps ∙ ap (λ (l : List Seen). l ++ trace leads.steps) (nothing_recorded (gap s first)) ∙ leads.used in
     let ends : end_of p (between ++ leads.steps) s ≡ f.last = end_append p between leads.steps s ∙ sym leads.ends in
     rw f.delivers (run_on p s f.last items (items_of r.entries) files (between ++ leads.steps) h run records ends)
 
@@ -118,14 +139,17 @@ one_part old new text r items files h j =
       j.more ∙ ap (λ (l : List (ℕ × ℕ)). l ++ sizes j.files) h.1 ∙ sym (map-append (λ f. (f.number, length f.bytes)) files j.files),
     )
 
-all_parts : (old new : SeriesValue) (parts : List Part) (items : List Seen) (files : List FileBytes) → HasJoined old items files → AreAdded old parts new → (all : List FileBytes) × HasJoined new (items ++ joined parts) all
-all_parts old new [] items files h a = (files, subst (λ (l : List Seen). HasJoined new l files) (sym (append-nil items)) (subst (λ q. HasJoined q items files) (sym a) h))
+all_parts : (old new : SeriesValue) (parts : List Part) (items : List Seen) (files : List FileBytes)
+    → HasJoined old items files → AreAdded old parts new → (all : List FileBytes) × HasJoined new (items ++ joined parts) all
+all_parts old new [] items files h a =
+    (files, subst (λ (l : List Seen). HasJoined new l files) (sym (append-nil items)) (subst (λ q. HasJoined q items files) (sym a) h))
 all_parts old new (part ∷ parts) items files h a =
     let here = one_part old a.0 part.certificate part.recording items files h a.1 in
     let all = all_parts a.0 new parts (items ++ items_of part.recording.entries) (files ++ a.1.files) here a.2 in
     (all.0, subst (λ (l : List Seen). HasJoined new l all.0) (append_assoc items (items_of part.recording.entries) (joined parts)) all.1)
 
-some_run : (p : Contents) (state : Option State) (items : List Seen) (files : List FileBytes) → IsPast p state items files → AreInSomeRun p items files
+some_run : (p : Contents) (state : Option State) (items : List Seen) (files : List FileBytes)
+    → IsPast p state items files → AreInSomeRun p items files
 some_run p None items files h = record { first = 0; byte = omega arith; steps = []; run = tt; recorded = sym h.0; gives = h.1 }
 some_run p (Some s) items files h =
     record {
@@ -137,7 +161,8 @@ some_run p (Some s) items files h =
       gives = sym (ap (λ (q : State). q.sink.received.files) h.ends ∙ ap (λ (l : List FileBytes). files ++ l) h.none ∙ append-nil files);
     }
 
-pub one_run : (s : SeriesValue) (items : List Seen) (files : List FileBytes) → IsProfile s.profile → HasJoined s items files → IsOneRun s.profile items s.files
+pub one_run : (s : SeriesValue) (items : List Seen) (files : List FileBytes)
+    → IsProfile s.profile → HasJoined s items files → IsOneRun s.profile items s.files
 one_run s items files is h =
     let some = some_run s.profile s.state items files h.0 in
     record { files = files; some = some; every = some_in_every s.profile is items files some; answered = h.1 }
@@ -150,7 +175,8 @@ same_profile : (old new : SeriesValue) (parts : List Part) → AreAdded old part
 same_profile old new [] a = ap (λ (q : SeriesValue). q.profile) a
 same_profile old new (part ∷ parts) a = same_profile a.0 new parts a.2 ∙ a.1.profile
 
-pub parts_one_run : (p : Contents) → IsProfile p → (parts : List Part) (s : SeriesValue) → AreAdded (no_parts p) parts s → IsOneRun p (joined parts) s.files
+pub parts_one_run : (p : Contents)
+    → IsProfile p → (parts : List Part) (s : SeriesValue) → AreAdded (no_parts p) parts s → IsOneRun p (joined parts) s.files
 parts_one_run p is parts s a =
     let all = all_parts (no_parts p) s parts [] [] (begun_none p) a in
     let same = same_profile (no_parts p) s parts a in

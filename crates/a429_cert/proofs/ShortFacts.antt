@@ -15,10 +15,12 @@ two_digits n old new least most a = a ∙ ap (λ t. old ++ t) (sym (two_is n lea
 three_is : (n : ℕ) → 100 ≤ n → n < 1000 → decimal n ≡ (48 + n / 100) ∷ (48 + n / 10 % 10) ∷ (48 + n % 10) ∷ []
 three_is n least most =
     let first : n / 10 / 10 ≡ n / 100 = omega arith in
-    decimal_step n (omega arith) (omega arith) ∙ ap (λ t. t ++ (48 + n % 10) ∷ []) (two_is (n / 10) (omega arith) (omega arith)) ∙ ap (λ d. (48 + d) ∷ (48 + n / 10 % 10) ∷ (48 + n % 10) ∷ []) first
+    decimal_step n (omega arith) (omega arith) ∙ ap (λ t. t ++ (48 + n % 10) ∷ []) (two_is (n / 10) (omega arith) (omega arith))
+    ∙ ap (λ d. (48 + d) ∷ (48 + n / 10 % 10) ∷ (48 + n % 10) ∷ []) first
 
 -- the digit that counts 100, and the two behind it
-pub three_digits : (n h : ℕ) (old mid new : List ℕ) → 1 ≤ h → 100 * h ≤ n → n < 100 * h + 100 → n < 1000 → mid ≡ old ++ (48 + h) ∷ [] → new ≡ mid ++ (48 + (n - 100 * h) / 10) ∷ (48 + (n - 100 * h) % 10) ∷ [] → new ≡ old ++ decimal n
+pub three_digits : (n h : ℕ) (old mid new : List ℕ) → 1 ≤ h → 100 * h ≤ n → n < 100 * h + 100 → n < 1000 → mid ≡ old ++ (48 + h) ∷ []
+    → new ≡ mid ++ (48 + (n - 100 * h) / 10) ∷ (48 + (n - 100 * h) % 10) ∷ [] → new ≡ old ++ decimal n
 three_digits n h old mid new some least most short a b =
     let first : n / 100 ≡ h = omega arith in
     let second : n / 10 % 10 ≡ (n - 100 * h) / 10 = omega arith in

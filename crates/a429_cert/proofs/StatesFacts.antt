@@ -20,11 +20,14 @@ abbrev IsSpelled : {A : Type 0} → (A → List ℕ) → (A → Type 0) → List
 IsSpelled text Fits bytes v = (bytes ≡ text v.0 ++ v.1) × Fits v.0
 
 -- the letter is this one, or one of those behind it
-letter : {A : Type 0} (text : A → List ℕ) (Fits : A → Type 0) (b c : ℕ) (x : A) (rest : List ℕ) (v : A × List ℕ) (others : Option (A × List ℕ)) → (text x ≡ c ∷ []) × Fits x → (if b == c then Some (x, rest) else others) ≡ Some v
+letter : {A : Type 0} (text : A → List ℕ) (Fits : A → Type 0) (b c : ℕ) (x : A) (rest : List ℕ) (v : A × List ℕ)
+    (others : Option (A × List ℕ)) → (text x ≡ c ∷ []) × Fits x → (if b == c then Some (x, rest) else others) ≡ Some v
     → (others ≡ Some v → IsSpelled text Fits (b ∷ rest) v) → IsSpelled text Fits (b ∷ rest) v
 letter text Fits b c x rest v others spelled e more =
     elim (split (b == c) (Some (x, rest)) others v e) [
-      | inl p ↦ subst (IsSpelled text Fits (b ∷ rest)) (some_is (x, rest) v p.1) (ap (λ n. n ∷ rest) (is_same b c p.0) ∙ ap (λ t. t ++ rest) (sym spelled.0), spelled.1)
+      | inl p ↦
+          subst (IsSpelled text Fits (b ∷ rest)) (some_is (x, rest) v p.1)
+          (ap (λ n. n ∷ rest) (is_same b c p.0) ∙ ap (λ t. t ++ rest) (sym spelled.0), spelled.1)
       | inr r ↦ more r
     ]
 
@@ -36,14 +39,16 @@ source-back Awaiting rest h next = refl
 source-back (Sending k) rest h next = rw (decimals.back k rest (omega arith) next, fits k 254 h) refl
 source-back Waiting rest h next = refl
 
-sending-only : (rest : List ℕ) (v : SourceState × List ℕ) → sending_in (decimal_in rest) ≡ Some v → IsSpelled source_text IsSource (83 ∷ rest) v
+sending-only : (rest : List ℕ) (v : SourceState × List ℕ)
+    → sending_in (decimal_in rest) ≡ Some v → IsSpelled source_text IsSource (83 ∷ rest) v
 sending-only rest v e =
     let n = bind_some (decimal_in rest) _ v e in
     let w = when_some (nat_le n.0.0 254) (Sending n.0.0, n.0.1) v n.2 in
     let low : n.0.0 ≤ 254 = omega (arith, below n.0.0 254 w.0) in
     subst (IsSpelled source_text IsSource (83 ∷ rest)) w.1 (ap (λ (t : List ℕ). 83 ∷ t) (decimals.only rest n.0 n.1).0, low)
 
-source_letter-only : (b : ℕ) (rest : List ℕ) (v : SourceState × List ℕ) → source_letter b rest ≡ Some v → IsSpelled source_text IsSource (b ∷ rest) v
+source_letter-only : (b : ℕ) (rest : List ℕ) (v : SourceState × List ℕ)
+    → source_letter b rest ≡ Some v → IsSpelled source_text IsSource (b ∷ rest) v
 source_letter-only b rest v e =
     letter source_text IsSource b 73 Idle rest v _ (refl, tt) e (λ e1.
     letter source_text IsSource b 67 Awaiting rest v _ (refl, tt) e1 (λ e2.
@@ -138,5 +143,6 @@ states-only text s e =
     let P : States → Type 0 = λ x. (text ≡ states_text x) × AreWritten x in
     let read : States = record { source = source.0.0; sink = sink.0.0; to_sink = to_sink.0.0; to_source = to_source.0 } in
     let spelled : text ≡ states_text read =
-    first.0 ∙ ap (λ t. field (source_text source.0.0) ++ t) (second.0 ∙ ap (λ t. field (sink_text sink.0.0) ++ t) (third.0 ∙ ap (λ t. field (decimal to_sink.0.0) ++ t) fourth.0)) in
+    first.0 ∙ ap (λ t. field (source_text source.0.0) ++ t)
+    (second.0 ∙ ap (λ t. field (sink_text sink.0.0) ++ t) (third.0 ∙ ap (λ t. field (decimal to_sink.0.0) ++ t) fourth.0)) in
     subst P (some_is read s to_source.2) (spelled, record { source = first.1; sink = second.1; to_sink = third.1; to_source = fourth.1 })

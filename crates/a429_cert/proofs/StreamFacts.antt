@@ -100,13 +100,15 @@ wants (Moved m) e = act_wants m.act e
 
 -- ---- a line that passes
 
-pub few_used : (p : Contents) (x : Listed) (next : Option Seen) (s t : State) (used : ℕ) → PassesListed p x next (change s t) used → used ≤ 1
+pub few_used : (p : Contents) (x : Listed) (next : Option Seen) (s t : State) (used : ℕ)
+    → PassesListed p x next (change s t) used → used ≤ 1
 few_used p x next s t used h =
     let l = line_of x in
     let n : used ≡ uses_listed x = (h l.0 l.1).2 ∙ same_uses x l.0 l.1 in
     omega (arith, listed_few x, n)
 
-used_is : (p : Contents) (x : Listed) (next : Option Seen) (s t : State) (used : ℕ) → PassesListed p x next (change s t) used → used ≡ uses_listed x
+used_is : (p : Contents) (x : Listed) (next : Option Seen) (s t : State) (used : ℕ)
+    → PassesListed p x next (change s t) used → used ≡ uses_listed x
 used_is p x next s t used h = let l = line_of x in (h l.0 l.1).2 ∙ same_uses x l.0 l.1
 
 no_step : (p : Contents) (o : Option Step) (s t : State) → o ≡ None → MakesStep p o s t → ⊥
@@ -114,7 +116,8 @@ no_step p None s t e m = m
 no_step p (Some a) s t e m = absurd (cc e)
 
 passes_over : (p : Contents) (x : Listed) (s t : State) (r : Recording) (new : Option Recording) (next : Option Seen) (used n : ℕ)
-    → uses_listed x ≡ n → TakesNext n (Some r) new next → PassesListed p x next (change s t) used → PassesNext p x (change s t) (change (Some r) new) used
+    → uses_listed x ≡ n → TakesNext n (Some r) new next → PassesListed p x next (change s t) used
+    → PassesNext p x (change s t) (change (Some r) new) used
 passes_over p x s t r new next used zero e g h =
     let none : used ≡ 0 = used_is p x next s t used h ∙ e in (
       λ l is.
@@ -142,7 +145,8 @@ passes_next p x s t (Some r) new next used g h = passes_over p x s t r new next 
 can_alone : (p : Contents) (l : CertLine) (a b : Option Seen) (s : State) → uses l ≡ 0 → CanBe p l a s → CanBe p l b s
 can_alone p l a b s e h = (h.0, sym (alone l a b e) ∙ h.1, h.2)
 
-fault_alone : (p : Contents) (s : State) (a b : Option Seen) (n i : ℕ) (l : CertLine) (f : CertFault) → uses l ≡ 0 → IsFaultOfRead p s (at_line n i a) l f → IsFaultOfRead p s (at_line n i b) l f
+fault_alone : (p : Contents) (s : State) (a b : Option Seen) (n i : ℕ) (l : CertLine) (f : CertFault)
+    → uses l ≡ 0 → IsFaultOfRead p s (at_line n i a) l f → IsFaultOfRead p s (at_line n i b) l f
 fault_alone p s a b n i l of.Version e h = h
 fault_alone p s a b n i l (of.Line m) e h = h
 fault_alone p s a b n i l (of.NotAllowed m) e h = h
@@ -152,7 +156,8 @@ fault_alone p s a b n i l (of.Unfinished j) e h = h
 fault_alone p s a b n i l of.OutOfMemory e h = h
 
 -- no word differs where none is used
-none_differs : (p : Contents) (s : State) (next : Option Seen) (n i m j : ℕ) (l : CertLine) → uses l ≡ 0 → IsFaultOfRead p s (at_line n i next) l (of.WordDiffers m j) → ⊥
+none_differs : (p : Contents) (s : State) (next : Option Seen) (n i m j : ℕ) (l : CertLine)
+    → uses l ≡ 0 → IsFaultOfRead p s (at_line n i next) l (of.WordDiffers m j) → ⊥
 none_differs p s next n i m j l e h = h.1.3 (can_alone p l h.1.2.0 next s e h.1.2.1)
 
 has_end : (p : Contents) (x : Listed) (s : State) (r : Recording) (new : Option Recording) (next : Option Seen) (n i k : ℕ) (f : CertFault)
@@ -169,15 +174,20 @@ has_end p x s r new next n i k (of.StateDiffers m) e g h = tt
 has_end p x s r new next n i k (of.Unfinished j) e g h = tt
 has_end p x s r new next n i k of.OutOfMemory e g h = tt
 
-refuses_over : (p : Contents) (x : Listed) (s : State) (r : Recording) (new : Option Recording) (next : Option Seen) (n i k : ℕ) (f : CertFault)
-    → uses_listed x ≡ k → TakesNext k (Some r) new next → RefusesListed p x (record { line = n; entry = i; next = next }) s f → RefusesListed p x (record { line = n; entry = i; next = next_of r }) s f
+refuses_over : (p : Contents) (x : Listed) (s : State) (r : Recording) (new : Option Recording) (next : Option Seen) (n i k : ℕ)
+    (f : CertFault)
+    → uses_listed x ≡ k → TakesNext k (Some r) new next → RefusesListed p x (record { line = n; entry = i; next = next }) s f
+    → RefusesListed p x (record { line = n; entry = i; next = next_of r }) s f
 refuses_over p x s r new next n i zero f e g h = λ l is z. fault_alone p s next (next_of r) n i l f (same_uses x l is ∙ e) (h l is z)
-refuses_over p x s r new (Some item) n i (suc k) f e g h = subst (λ o. RefusesListed p x (record { line = n; entry = i; next = o }) s f) (sym g.0) h
+refuses_over p x s r new (Some item) n i (suc k) f e g h =
+    subst (λ o. RefusesListed p x (record { line = n; entry = i; next = o }) s f) (sym g.0) h
 refuses_over p x s r new None n i (suc k) f e g h =
     let none : next_of r ≡ None = ap next_of g in
     subst (λ o. RefusesListed p x (record { line = n; entry = i; next = o }) s f) (sym none) h
 
-known_refused : (p : Contents) (x : Listed) (s : State) (r : Recording) (n i : ℕ) (f : CertFault) → RefusesListed p x (record { line = n; entry = i; next = next_of r }) s f → HasEnd r f → RefusesNext p x (position s (Some r) i) n (of_cert f)
+known_refused : (p : Contents) (x : Listed) (s : State) (r : Recording) (n i : ℕ) (f : CertFault)
+    → RefusesListed p x (record { line = n; entry = i; next = next_of r }) s f → HasEnd r f
+    → RefusesNext p x (position s (Some r) i) n (of_cert f)
 known_refused p x s r n i of.Version h e = (h, e, λ z. cc)
 known_refused p x s r n i (of.Line m) h e = (h, e, λ z. cc)
 known_refused p x s r n i (of.NotAllowed m) h e = (h, e, λ z. cc)
@@ -187,10 +197,12 @@ known_refused p x s r n i (of.Unfinished j) h e = (h, e, λ z. cc)
 known_refused p x s r n i of.OutOfMemory h e = tt
 
 pub refused_next : (p : Contents) (x : Listed) (s : State) (old new : Option Recording) (next : Option Seen) (n i : ℕ) (f : CertFault)
-    → TakesNext (uses_listed x) old new next → RefusesListed p x (record { line = n; entry = i; next = next }) s f → RefusesNext p x (position s old i) n (of_cert f)
+    → TakesNext (uses_listed x) old new next → RefusesListed p x (record { line = n; entry = i; next = next }) s f
+    → RefusesNext p x (position s old i) n (of_cert f)
 refused_next p x s None new next n i f g h = tt
 refused_next p x s (Some r) new next n i f g h =
-    known_refused p x s r n i f (refuses_over p x s r new next n i (uses_listed x) f refl g h) (has_end p x s r new next n i (uses_listed x) f refl g h)
+    known_refused p x s r n i f (refuses_over p x s r new next n i (uses_listed x) f refl g h)
+    (has_end p x s r new next n i (uses_listed x) f refl g h)
 
 -- ---- a line of the text
 
@@ -213,15 +225,18 @@ named p (listed.Moved m) (Moved l) s is e h = subst (λ (q : MovedLine). IsNamed
 named p (listed.Moved m) (First file) s is e h = absurd is
 named p (listed.Moved m) (Load l) s is e h = absurd is
 
-pub refused_text : (p : Contents) (text : Option (List ℕ)) (x : Listed) (s : State) (old : Option Recording) (n i : ℕ) (f : StreamFault) → Lists p text x s → RefusesNext p x (position s old i) n f → RefusesOver p text (position s old i) n f
+pub refused_text : (p : Contents) (text : Option (List ℕ)) (x : Listed) (s : State) (old : Option Recording) (n i : ℕ) (f : StreamFault)
+    → Lists p text x s → RefusesNext p x (position s old i) n f → RefusesOver p text (position s old i) n f
 refused_text p text x s None n i f h m = tt
-refused_text p text x s (Some r) n i (stream.Cert f) h m = (fault-listed p text x (record { line = n; entry = i; next = next_of r }) s f h m.0 m.2, m.1)
+refused_text p text x s (Some r) n i (stream.Cert f) h m =
+    (fault-listed p text x (record { line = n; entry = i; next = next_of r }) s f h m.0 m.2, m.1)
 refused_text p text x s (Some r) n i (stream.Read f) h m = ((h.0, h.1, same_uses x h.0 h.2 ∙ m.0, named p x h.0 s h.2 m.0 h.3), m.1, m.2)
 refused_text p text x s (Some r) n i stream.Device h m = tt
 refused_text p text x s (Some r) n i stream.OutOfMemory h m = tt
 
 -- before its entry is known it is refused whatever the next entry is
-first_refused : (p : Contents) (text : Option (List ℕ)) (s : State) (r : Recording) (n i : ℕ) (f : CertFault) → RefusesFirst p text n s f → RefusesOver p text (position s (Some r) i) n (of_cert f)
+first_refused : (p : Contents) (text : Option (List ℕ)) (s : State) (r : Recording) (n i : ℕ) (f : CertFault)
+    → RefusesFirst p text n s f → RefusesOver p text (position s (Some r) i) n (of_cert f)
 first_refused p text s r n i of.OutOfMemory h = tt
 first_refused p text s r n i of.Version h = (h (record { line = n; entry = i; next = next_of r }) refl (λ z. cc), tt)
 first_refused p text s r n i (of.Line m) h = (h (record { line = n; entry = i; next = next_of r }) refl (λ z. cc), tt)
@@ -236,14 +251,16 @@ first_refused p text s r n i (of.WordDiffers m j) h =
     apart : (j i : ℕ) → j ≡ i → j ≡ suc i → ⊥
     apart j i e g = omega (arith, e, g)
 
-pub refused_first : (p : Contents) (text : Option (List ℕ)) (s : State) (old : Option Recording) (n i : ℕ) (f : CertFault) → RefusesFirst p text n s f → RefusesOver p text (position s old i) n (of_cert f)
+pub refused_first : (p : Contents) (text : Option (List ℕ)) (s : State) (old : Option Recording) (n i : ℕ) (f : CertFault)
+    → RefusesFirst p text n s f → RefusesOver p text (position s old i) n (of_cert f)
 refused_first p text s None n i f h = tt
 refused_first p text s (Some r) n i f h = first_refused p text s r n i f h
 
 -- ---- how many entries a reader has given
 
 -- a line that passes uses those that were given for it
-pub used_given : (p : Contents) (x : Listed) (next : Option Entry) (s t : State) (used old new : ℕ) → GivesFor (uses_listed x) next old new → PassesListed p x (option_map seen_of next) (change s t) used → new ≡ old + used
+pub used_given : (p : Contents) (x : Listed) (next : Option Entry) (s t : State) (used old new : ℕ)
+    → GivesFor (uses_listed x) next old new → PassesListed p x (option_map seen_of next) (change s t) used → new ≡ old + used
 used_given p x (Some e) s t used old new g h =
     let u = used_is p x (Some (seen_of e)) s t used h in omega (arith, g.0, g.1, u)
 used_given p x None s t used old new g h = by (uses_listed x) refl
@@ -270,7 +287,8 @@ none_given Wants read.Device old new e = e
 none_given Wants read.OutOfMemory old new e = inl e
 none_given Wants read.Failed old new e = e
 
-pub cert_given : (Wants : Type 0) (f : CertFault) (old new : ℕ) → (new ≡ old) ⊎ (Wants × (new ≡ old + 1)) → GivesAtFault Wants (of_cert f) old new
+pub cert_given : (Wants : Type 0) (f : CertFault) (old new : ℕ)
+    → (new ≡ old) ⊎ (Wants × (new ≡ old + 1)) → GivesAtFault Wants (of_cert f) old new
 cert_given Wants of.Version old new h = h
 cert_given Wants (of.Line m) old new h = h
 cert_given Wants (of.NotAllowed m) old new h = h
@@ -279,7 +297,8 @@ cert_given Wants (of.WordDiffers m j) old new h = h
 cert_given Wants (of.Unfinished j) old new h = h
 cert_given Wants of.OutOfMemory old new h = h
 
-pub not_taken_given : (replay : Replay) (x : Listed) (next : Option Seen) (Wants : Type 0) (f : StreamFault) (old new : ℕ) → IsNotTaken replay x next f → (new ≡ old) ⊎ (Wants × (new ≡ old + 1)) → GivesAtFault Wants f old new
+pub not_taken_given : (replay : Replay) (x : Listed) (next : Option Seen) (Wants : Type 0) (f : StreamFault) (old new : ℕ)
+    → IsNotTaken replay x next f → (new ≡ old) ⊎ (Wants × (new ≡ old + 1)) → GivesAtFault Wants f old new
 not_taken_given replay x next Wants (stream.Cert f) old new m h = h
 not_taken_given replay x next Wants (stream.Read f) old new m h = absurd m
 not_taken_given replay x next Wants stream.Device old new m h = h
@@ -290,7 +309,8 @@ most_more A B old new f (inl e) = inl e
 most_more A B old new f (inr h) = inr (f h.0, h.1)
 
 -- the line wants the entry that its step uses
-pub line_given : (p : Contents) (text : Option (List ℕ)) (x : Listed) (s : State) (f : StreamFault) (old new : ℕ) → Lists p text x s → GivesAtFault (uses_listed x ≡ 1) f old new → GivesAtFault (WantsEntry p text s) f old new
+pub line_given : (p : Contents) (text : Option (List ℕ)) (x : Listed) (s : State) (f : StreamFault) (old new : ℕ)
+    → Lists p text x s → GivesAtFault (uses_listed x ≡ 1) f old new → GivesAtFault (WantsEntry p text s) f old new
 line_given p text x s f old new h g = by f g
   where
     wanted : uses_listed x ≡ 1 → WantsEntry p text s
@@ -308,20 +328,24 @@ placed_append : (i : ℕ) (xs ys : List FileBytes) → placed i (xs ++ ys) ≡ p
 placed_append i [] ys = let n : i ≡ i + 0 = omega arith in ap (λ (k : ℕ). placed k ys) n
 placed_append i (x ∷ xs) ys =
     let n : suc i + length xs ≡ i + suc (length xs) = omega arith in
-    ap (λ (l : List PutFile). record { index = i; file = x } ∷ l) (placed_append (suc i) xs ys ∙ ap (λ (k : ℕ). placed (suc i) xs ++ placed k ys) n)
+    ap (λ (l : List PutFile). record { index = i; file = x } ∷ l)
+    (placed_append (suc i) xs ys ∙ ap (λ (k : ℕ). placed (suc i) xs ++ placed k ys) n)
 
-gains_both : (a b c : Option (List PutFile)) (i : ℕ) (xs ys : List FileBytes) → GainsAll a b i xs → GainsAll b c (i + length xs) ys → GainsAll a c i (xs ++ ys)
+gains_both : (a b c : Option (List PutFile)) (i : ℕ) (xs ys : List FileBytes)
+    → GainsAll a b i xs → GainsAll b c (i + length xs) ys → GainsAll a c i (xs ++ ys)
 gains_both None b c i xs ys h g = tt
 gains_both (Some x) None c i xs ys h g = absurd h
 gains_both (Some x) (Some y) None i xs ys h g = absurd g
 gains_both (Some x) (Some y) (Some z) i xs ys h g =
-    g ∙ ap (λ (l : List PutFile). l ++ placed (i + length xs) ys) h ∙ append_assoc x (placed i xs) (placed (i + length xs) ys) ∙ ap (λ (l : List PutFile). x ++ l) (sym (placed_append i xs ys))
+    g ∙ ap (λ (l : List PutFile). l ++ placed (i + length xs) ys) h ∙ append_assoc x (placed i xs) (placed (i + length xs) ys)
+    ∙ ap (λ (l : List PutFile). x ++ l) (sym (placed_append i xs ys))
 
 pub gains_none : (a : Option (List PutFile)) (i : ℕ) → GainsAll a a i []
 gains_none None i = tt
 gains_none (Some x) i = sym (append-nil x)
 
-pub gains_same : (a b c : Option (List PutFile)) (i : ℕ) (files : List FileBytes) → GainsAll a b i files → IsUnchanged b c → GainsAll a c i files
+pub gains_same : (a b c : Option (List PutFile)) (i : ℕ) (files : List FileBytes)
+    → GainsAll a b i files → IsUnchanged b c → GainsAll a c i files
 gains_same None b c i files h g = tt
 gains_same (Some x) None c i files h g = absurd h
 gains_same (Some x) (Some y) None i files h g = absurd g
@@ -334,22 +358,29 @@ gains_one (Some x) (Some y) i f g = g
 
 -- the place of the next files is behind those that were noted
 pub put_on : (a b c : Option (List PutFile)) (init now : List (ℕ × ℕ)) (xs ys : List FileBytes)
-    → GainsAll a b (length init + 1) xs → now ≡ init ++ sizes xs → GainsAll b c (length now + 1) ys → GainsAll a c (length init + 1) (xs ++ ys)
+    → GainsAll a b (length init + 1) xs → now ≡ init ++ sizes xs → GainsAll b c (length now + 1) ys
+    → GainsAll a c (length init + 1) (xs ++ ys)
 put_on a b c init now xs ys h e g =
-    let all : length now ≡ length init + length xs = ap (λ (l : List (ℕ × ℕ)). length l) e ∙ length-append init (sizes xs) ∙ ap (λ n. length init + n) (length-map xs (λ f. (f.number, length f.bytes))) in
+    let all : length now ≡ length init + length xs = ap (λ (l : List (ℕ × ℕ)). length l) e ∙ length-append init (sizes xs)
+    ∙ ap (λ n. length init + n) (length-map xs (λ f. (f.number, length f.bytes))) in
     let place : length now + 1 ≡ length init + 1 + length xs = omega (arith, all) in
     gains_both a b c (length init + 1) xs ys h (subst (λ n. GainsAll b c n ys) place g)
 
-pub noted_on : (init now new : List (ℕ × ℕ)) (xs ys : List FileBytes) → now ≡ init ++ sizes xs → new ≡ now ++ sizes ys → new ≡ init ++ sizes (xs ++ ys)
+pub noted_on : (init now new : List (ℕ × ℕ)) (xs ys : List FileBytes)
+    → now ≡ init ++ sizes xs → new ≡ now ++ sizes ys → new ≡ init ++ sizes (xs ++ ys)
 noted_on init now new xs ys e g =
-    g ∙ ap (λ (l : List (ℕ × ℕ)). l ++ sizes ys) e ∙ append_assoc init (sizes xs) (sizes ys) ∙ ap (λ (l : List (ℕ × ℕ)). init ++ l) (sym (map-append (λ f. (f.number, length f.bytes)) xs ys))
+    g ∙ ap (λ (l : List (ℕ × ℕ)). l ++ sizes ys) e ∙ append_assoc init (sizes xs) (sizes ys)
+    ∙ ap (λ (l : List (ℕ × ℕ)). init ++ l) (sym (map-append (λ f. (f.number, length f.bytes)) xs ys))
 
-past_front : (k : ℕ) (files : List FileBytes) → k < length files → (f : FileBytes) × (more : List FileBytes) × (files ≡ take k files ++ f ∷ more)
+past_front : (k : ℕ) (files : List FileBytes)
+    → k < length files → (f : FileBytes) × (more : List FileBytes) × (files ≡ take k files ++ f ∷ more)
 past_front k [] h = absurd (omega arith)
 past_front zero (f ∷ files) h = (f, files, refl)
-past_front (suc k) (f ∷ files) h = let next = past_front k files (omega arith) in (next.0, next.1, ap (λ (l : List FileBytes). f ∷ l) next.2)
+past_front (suc k) (f ∷ files) h =
+    let next = past_front k files (omega arith) in (next.0, next.1, ap (λ (l : List FileBytes). f ∷ l) next.2)
 
-pub front_put : (a b c : Option (List PutFile)) (i k : ℕ) (files : List FileBytes) → k < length files → GainsAll a b i (take k files) → IsUnchanged b c → GainsFront a c i files
+pub front_put : (a b c : Option (List PutFile)) (i k : ℕ) (files : List FileBytes)
+    → k < length files → GainsAll a b i (take k files) → IsUnchanged b c → GainsFront a c i files
 front_put a b c i k files inside h g =
     let past = past_front k files inside in
     record { front = take k files; next = past.0; more = past.1; first = past.2; gained = gains_same a b c i (take k files) h g }

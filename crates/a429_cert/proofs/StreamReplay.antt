@@ -32,7 +32,8 @@ use Rattle.a429_cert.specs.Change.{Change, change}
 
 -- ---- where both are told
 
-pub both_known_map : (known : Option (List ℕ)) (rec : Option Recording) (A B : List ℕ → Recording → Type 0) → ((text : List ℕ) (r : Recording) → A text r → B text r) → WhereBothKnown known rec A → WhereBothKnown known rec B
+pub both_known_map : (known : Option (List ℕ)) (rec : Option Recording) (A B : List ℕ → Recording → Type 0)
+    → ((text : List ℕ) (r : Recording) → A text r → B text r) → WhereBothKnown known rec A → WhereBothKnown known rec B
 both_known_map None rec A B f h = tt
 both_known_map (Some text) None A B f h = tt
 both_known_map (Some text) (Some r) A B f h = f text r h
@@ -45,15 +46,20 @@ init_both_known p d s (Some text) old left (Some r) e h z = by left (subst (λ o
   where
     by : (left : Option (List ℕ)) → TakesHead (Some text) left d → Stands p text r d 0 0 [] s left (Some r)
     by None h = absurd h
-    by (Some ys) h = record { says = h.0; lines = (ys, refl, h.1); inside = omega arith; reached = begins p d.first (with_earlier [] s) z; rest = refl }
+    by (Some ys) h =
+        record { says = h.0; lines = (ys, refl, h.1); inside = omega arith; reached = begins p d.first (with_earlier [] s) z; rest = refl }
 
-pub on_both_known : (p : Contents) (d : Head) (k i used : ℕ) (taken : List FileBytes) (s t : State) (line known left more : Option (List ℕ)) (start_rec rec new : Option Recording)
+pub on_both_known : (p : Contents) (d : Head) (k i used : ℕ) (taken : List FileBytes) (s t : State) (line known left more : Option (List ℕ))
+    (start_rec rec new : Option Recording)
     → GivesLine left more line true → PassesOver p (read_as d.version line) (change s t) (change rec new) used
     → WhereBothKnown known start_rec (λ text r. Stands p text r d k i taken s left rec)
-    → WhereBothKnown known start_rec (λ text r. Stands p text r d (suc k) (i + used) (taken ++ t.sink.received.files) (handed_out t) more new)
+    → WhereBothKnown known start_rec
+    (λ text r. Stands p text r d (suc k) (i + used) (taken ++ t.sink.received.files) (handed_out t) more new)
 on_both_known p d k i used taken s t line known left more start_rec rec new g m =
-    both_known_map known start_rec (λ text r. Stands p text r d k i taken s left rec) (λ text r. Stands p text r d (suc k) (i + used) (taken ++ t.sink.received.files) (handed_out t) more new)
-    (λ text r h. hands_out p text r d (suc k) (i + used) taken t more new (goes_on p text r d k i used taken s t line left more rec new h g m))
+    both_known_map known start_rec (λ text r. Stands p text r d k i taken s left rec)
+    (λ text r. Stands p text r d (suc k) (i + used) (taken ++ t.sink.received.files) (handed_out t) more new)
+    (λ text r h.
+    hands_out p text r d (suc k) (i + used) taken t more new (goes_on p text r d k i used taken s t line left more rec new h g m))
 
 -- ---- faults of a recording
 
@@ -84,39 +90,50 @@ fresh ahead (Some xs) e = rw e refl
 
 -- ---- the end
 
-pub none_next : (lines : List (Option (List ℕ))) (k : ℕ) (old new line : Option (List ℕ)) → AreLeftAfter lines k old → GivesLine old new line false → slice_get lines k ≡ None
+pub none_next : (lines : List (Option (List ℕ))) (k : ℕ) (old new line : Option (List ℕ))
+    → AreLeftAfter lines k old → GivesLine old new line false → slice_get lines k ≡ None
 none_next lines k None new line h g = absurd (cc h.1)
 none_next lines k (Some xs) None line h g = absurd g
 none_next lines k (Some xs) (Some ys) line h g =
     let same : certificate_lines xs ≡ drop k lines = ap certificate_lines (some_is xs h.0 h.1) ∙ h.2 in
     sym (drop_get lines k) ∙ ap (λ (l : List (Option (List ℕ))). slice_get l 0) (sym same ∙ g)
 
-yes : (p : Contents) (d : Head) (k i : ℕ) (taken : List FileBytes) (s : State) (held left more : Option (List ℕ)) (rec new : Option Recording) (text : List ℕ) (r : Recording)
-    → IsProfile p → s.sink.received.files ≡ [] → GivesLine left more held false → GivesNext rec new (Ok None) → Stands p text r d k i taken s left rec → IsYes p taken text r
+yes : (p : Contents) (d : Head) (k i : ℕ) (taken : List FileBytes) (s : State) (held left more : Option (List ℕ))
+    (rec new : Option Recording) (text : List ℕ) (r : Recording)
+    → IsProfile p → s.sink.received.files ≡ [] → GivesLine left more held false → GivesNext rec new (Ok None)
+    → Stands p text r d k i taken s left rec → IsYes p taken text r
 yes p d k i taken s held left more rec new text r is none g e h =
     let end : left_after i r ≡ whole [] = subst (λ o. GivesNext o new (Ok None)) h.rest e in
     let items = items_of r.entries in
     let all : length items ≤ i = none_past items i (sym (next_at r.entries i) ∙ ap next_of end) in
     let files : (with_earlier taken s).sink.received.files ≡ taken = ap (λ (l : List FileBytes). taken ++ l) none ∙ append-nil taken in
     let here : IsExplained p text items taken = subst (λ (l : List FileBytes). IsExplained p text items l) files
-    (explained p text items d k i (with_earlier taken s) h.says (none_read d.version (drop 2 (certificate_lines text)) k (none_next (drop 2 (certificate_lines text)) k left more held h.lines g)) all h.reached) in
+    (explained p text items d k i (with_earlier taken s) h.says
+    (none_read d.version (drop 2 (certificate_lines text)) k (none_next (drop 2 (certificate_lines text)) k left more held h.lines g)) all
+    h.reached) in
     (ap (λ (q : Recording). q.fault) end, here, in_every_run p is text items taken here)
 
-pub yes_both_known : (p : Contents) (d : Head) (k i : ℕ) (taken : List FileBytes) (s : State) (held left more known : Option (List ℕ)) (start_rec rec new : Option Recording)
+pub yes_both_known : (p : Contents) (d : Head) (k i : ℕ) (taken : List FileBytes) (s : State) (held left more known : Option (List ℕ))
+    (start_rec rec new : Option Recording)
     → IsProfile p → s.sink.received.files ≡ [] → GivesLine left more held false → GivesNext rec new (Ok None)
     → WhereBothKnown known start_rec (λ text r. Stands p text r d k i taken s left rec) → WhereBothKnown known start_rec (IsYes p taken)
 yes_both_known p d k i taken s held left more known start_rec rec new is none g e =
-    both_known_map known start_rec (λ text r. Stands p text r d k i taken s left rec) (IsYes p taken) (λ text r h. yes p d k i taken s held left more rec new text r is none g e h)
+    both_known_map known start_rec (λ text r. Stands p text r d k i taken s left rec) (IsYes p taken)
+    (λ text r h. yes p d k i taken s held left more rec new text r is none g e h)
 
 -- what is extracted some run delivers
-of_some_run : (c : Compared) (shelf : Change (Option (List PutFile))) (answer : List (ℕ × ℕ)) → Extracts c shelf answer → ExtractsOfRun c shelf answer
+of_some_run : (c : Compared) (shelf : Change (Option (List PutFile))) (answer : List (ℕ × ℕ))
+    → Extracts c shelf answer → ExtractsOfRun c shelf answer
 of_some_run c shelf answer h = record {
   files = h.files;
-  some = both_known_map c.certificate c.recording (IsYes c.profile h.files) (IsSomeRun c.profile h.files) (λ text r yes. in_some_run c.profile text (items_of r.entries) h.files yes.1) h.yes;
+  some =
+      both_known_map c.certificate c.recording (IsYes c.profile h.files) (IsSomeRun c.profile h.files)
+      (λ text r yes. in_some_run c.profile text (items_of r.entries) h.files yes.1) h.yes;
   put = h.put;
   answered = h.answered;
 }
 
-pub run_of_answer : {Z E : Type 0} (c : Compared) (shelf : Change (Option (List PutFile))) (r : Result (Vec (ℕ × ℕ) Z) E) → IfOk r (SaysYes c shelf) → IfOk r (SaysFilesOfRun c shelf)
+pub run_of_answer : {Z E : Type 0} (c : Compared) (shelf : Change (Option (List PutFile))) (r : Result (Vec (ℕ × ℕ) Z) E)
+    → IfOk r (SaysYes c shelf) → IfOk r (SaysFilesOfRun c shelf)
 run_of_answer c shelf (Ok a) h = of_some_run c shelf a.items h
 run_of_answer c shelf (Err e) h = tt

@@ -19,7 +19,8 @@ use Rattle.a429_commands.specs.Output.{Output}
 use Rattle.a429_word.specs.Sheet.{SaysSome}
 
 -- lines come first of themselves
-nothing_after : (lots : List Lot) (f : Option ExportFault) → record { lots = lots; fault = f } ≡ with_lots lots (record { lots = []; fault = f })
+nothing_after : (lots : List Lot) (f : Option ExportFault)
+    → record { lots = lots; fault = f } ≡ with_lots lots (record { lots = []; fault = f })
 nothing_after [] f = refl
 nothing_after (l ∷ lots) f = ap (with_lot l) (nothing_after lots f)
 
@@ -29,18 +30,23 @@ begins lots i (fault.Export e) h = (record { lots = []; fault = Some e }, h ∙ 
 begins lots i fault.Device h = h
 begins lots i fault.OutOfMemory h = h
 
-first_lines : (m : Map) (export : Option (List ℕ)) (lots : List Lot) (f : ImportFault) → IfSome export (λ bytes. Stops f lots (imported m bytes)) → IfSome export (λ bytes. BeginsWith lots (imported m bytes))
+first_lines : (m : Map) (export : Option (List ℕ)) (lots : List Lot) (f : ImportFault)
+    → IfSome export (λ bytes. Stops f lots (imported m bytes)) → IfSome export (λ bytes. BeginsWith lots (imported m bytes))
 first_lines m None lots f h = tt
 first_lines m (Some bytes) lots f h = begins lots (imported m bytes) f h
 
 -- some first rows are said
-pub some_rows : {W : Type 0} (contents : W → Option (List ℕ)) (m : Map) (export : Option (List ℕ)) (old new : Sheet W) (r : Result Import ImportFault)
-    → IfOk r (ImportsAll contents (record { map = m; bytes = export }) old new) → IfErr r (ImportsUntil contents (record { map = m; bytes = export }) old new) → SaysSome contents old new (SomeRows m export)
+pub some_rows : {W : Type 0} (contents : W → Option (List ℕ)) (m : Map) (export : Option (List ℕ)) (old new : Sheet W)
+    (r : Result Import ImportFault)
+    → IfOk r (ImportsAll contents (record { map = m; bytes = export }) old new)
+    → IfErr r (ImportsUntil contents (record { map = m; bytes = export }) old new) → SaysSome contents old new (SomeRows m export)
 some_rows contents m export old new (Ok i) all until = (_, record { lots = all.lots; first = all.first; text_is = refl }, all.says)
-some_rows contents m export old new (Err f) all until = (_, record { lots = until.lots; first = first_lines m export until.lots f until.stops; text_is = refl }, until.says)
+some_rows contents m export old new (Err f) all until =
+    (_, record { lots = until.lots; first = first_lines m export until.lots f until.stops; text_is = refl }, until.says)
 
 -- as the command reports it
-pub before_fault : (m : Map) (export : Option (List ℕ)) (f : ImportFault) (text : List ℕ) → RowsBefore m export f text → RowsUntil m export (reported f) text
+pub before_fault : (m : Map) (export : Option (List ℕ)) (f : ImportFault) (text : List ℕ)
+    → RowsBefore m export f text → RowsUntil m export (reported f) text
 before_fault m export (fault.Export e) text h = h
 before_fault m export fault.Device text h = h
 before_fault m export fault.OutOfMemory text h = h
@@ -52,7 +58,8 @@ by_reader fault.Device failed h is = h refl
 by_reader fault.OutOfMemory failed h is = absurd (cc is)
 
 -- what ends by a map ends by the bytes of its text
-pub ends_by : {C : Type 0} {o : Output C} {r : Result ℕ RunFault} (m : Map) (i : ImportInput) → IsMapOf i.map m → Ends o (under_map m i.export i.failed) r → Ends o (of_rows i) r
+pub ends_by : {C : Type 0} {o : Output C} {r : Result ℕ RunFault} (m : Map) (i : ImportInput)
+    → IsMapOf i.map m → Ends o (under_map m i.export i.failed) r → Ends o (of_rows i) r
 ends_by m i is_map (answered status text is here works put) = absurd here
 ends_by m i is_map (stopped e text is here works put) = stopped e text is ((m, is_map, here.0), here.1) works put
 ends_by m i is_map (cut_off text is here failed front) = cut_off text is (m, is_map, here) failed front

@@ -20,7 +20,8 @@ begins None es f h = tt
 begins (Some r) es f (rest, is, stop) = (rest, is)
 
 -- as the command reports it
-pub before_fault : (p : Contents) (t : Taken) (f : ReadFault) (text : List ℕ) → KeepsRowsBefore p t f text → KeepsRowsUntil p t (reported f) text
+pub before_fault : (p : Contents) (t : Taken) (f : ReadFault) (text : List ℕ)
+    → KeepsRowsBefore p t f text → KeepsRowsUntil p t (reported f) text
 before_fault p t read.Device text h = h
 before_fault p t read.OutOfMemory text h = h
 before_fault p t read.Header text h = h

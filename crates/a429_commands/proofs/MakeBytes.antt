@@ -67,26 +67,48 @@ are_of_block p is [] h = tt
 are_of_block p is (w ∷ ws) h = (of_block p is w (form_of p.codes bus.A w) refl h.0, are_of_block p is ws h.1)
 
 are_block : (p : Contents) → IsProfile p → (place : UnitNumber) (u : LduValue) → HasForms p place u → AreSmall (clean_block p.codes place u)
-are_block p is place u s =
-    (formed p is bus.A _ _ s.request, (formed p is bus.B _ _ s.clear, are_append (map on_a (block_of p.codes u place.file place.ldu)) _ (are_of_block p is (block_of p.codes u place.file place.ldu) (block_has_forms p place u s)) (formed p is bus.B _ _ s.settled, tt)))
+are_block p is place u s = (
+  formed p is bus.A _ _ s.request,
+  (
+    formed p is bus.B _ _ s.clear,
+    are_append (map on_a (block_of p.codes u place.file place.ldu)) _
+        (are_of_block p is (block_of p.codes u place.file place.ldu) (block_has_forms p place u s)) (formed p is bus.B _ _ s.settled, tt),
+  ),
+)
 
-are_clean : (p : Contents) → IsProfile p → (us : List LduValue) (place : UnitNumber) → place.file ≤ 255 → AllFit p place us → AreSmall (clean_blocks p.codes place us)
+are_clean : (p : Contents) → IsProfile p → (us : List LduValue) (place : UnitNumber) → place.file ≤ 255 → AllFit p place us
+    → AreSmall (clean_blocks p.codes place us)
 are_clean p is [] place f h = tt
-are_clean p is (u ∷ us) place f h = are_append (clean_block p.codes place u) _ (are_block p is place u (unit_has_forms p is place u f h.1 h.0)) (are_clean p is us (number_after p.codes place u) (next_byte p.codes place _ f) h.2)
+are_clean p is (u ∷ us) place f h =
+    are_append (clean_block p.codes place u) _ (are_block p is place u (unit_has_forms p is place u f h.1 h.0))
+    (are_clean p is us (number_after p.codes place u) (next_byte p.codes place _ f) h.2)
 
 -- what is written of them stands for them
-pub made_back : (p : Contents) → IsProfile p → (files : List (List ℕ)) → AreByteLists files → first_refused 255 0 files ≡ None → length (words_made p files) ≤ most_entries → stands_for (written_form (timed 0 (words_made p files))) ≡ whole (timed 0 (words_made p files))
+pub made_back : (p : Contents) → IsProfile p → (files : List (List ℕ)) → AreByteLists files → first_refused 255 0 files ≡ None
+    → length (words_made p files) ≤ most_entries
+    → stands_for (written_form (timed 0 (words_made p files))) ≡ whole (timed 0 (words_made p files))
 made_back p is files small none room =
     let words = words_made p files in
-    let are = are_clean p is (units_of_files p 255 files) (first_number p.codes 1) (omega arith) (all_fit p 255 files (each_cut p is 0 files small none) 1) in
-    written-back (timed 0 words) (are_entries 0 words (omega arith) are) (omega (arith, length-timed 0 words), never_falls 0 0 words (omega arith))
+    let are =
+    are_clean p is (units_of_files p 255 files) (first_number p.codes 1) (omega arith)
+    (all_fit p 255 files (each_cut p is 0 files small none) 1) in
+    written-back (timed 0 words) (are_entries 0 words (omega arith) are)
+    (omega (arith, length-timed 0 words), never_falls 0 0 words (omega arith))
 
 -- and what it says is what a run records that delivers the files
-pub made_says : (profile : List ℕ) (files : List (List ℕ)) (text : List ℕ) → AreByteLists files → MakesRecording profile files text → SaysRunOf profile files text
+pub made_says : (profile : List ℕ) (files : List (List ℕ)) (text : List ℕ)
+    → AreByteLists files → MakesRecording profile files text → SaysRunOf profile files text
 made_says profile files text small made =
     let p = made.contents in
     let is = is_profile profile p made.is_profile in
     let run = made_cross p files is small made.cut in
     let back = made_back p is files small made.cut made.room in
-    let says : SayInput profile (Some text) = record { contents = p; entries = timed 0 (words_made p files); is_profile = made.is_profile; stand = ap stands_for made.is ∙ back } in
-    (says, (run.0, subst (λ items. IsRunOf p 1 run.0 items (record { files = numbered 1 files; open_bytes = [] })) (sym (items_timed 0 (words_made p files))) run.1))
+    let says : SayInput profile (Some text) =
+    record { contents = p; entries = timed 0 (words_made p files); is_profile = made.is_profile; stand = ap stands_for made.is ∙ back } in (
+      says,
+      (
+        run.0,
+        subst (λ items. IsRunOf p 1 run.0 items (record { files = numbered 1 files; open_bytes = [] }))
+            (sym (items_timed 0 (words_made p files))) run.1,
+      ),
+    )

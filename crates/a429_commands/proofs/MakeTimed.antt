@@ -18,7 +18,8 @@ timed-last k (x ∷ xs) s =
     ap (λ es. entry_at k x ∷ es) (timed-last (k + 1) xs s ∙ ap (λ i. timed (k + 1) xs ++ entry_at i s ∷ []) at)
 
 -- a further word
-timed-more : (k : ℕ) (xs : List Seen) (i : ℕ) (s : Seen) → i < length xs → s ≡ get_or xs i s → timed k (take (i + 1) xs) ≡ timed k (take i xs) ++ entry_at (k + i) s ∷ []
+timed-more : (k : ℕ) (xs : List Seen) (i : ℕ) (s : Seen)
+    → i < length xs → s ≡ get_or xs i s → timed k (take (i + 1) xs) ≡ timed k (take i xs) ++ entry_at (k + i) s ∷ []
 timed-more k xs i s h found =
     ap (timed k) (take_more xs i s h ∙ ap (λ x. take i xs ++ x ∷ []) (sym found))
     ∙ timed-last k (take i xs) s ∙ ap (λ n. timed k (take i xs) ++ entry_at (k + n) s ∷ []) (length-take-le i xs (omega arith))
@@ -39,15 +40,19 @@ timed-append k (x ∷ xs) ys =
     ap (λ es. entry_at k x ∷ es) (timed-append (k + 1) xs ys ∙ ap (λ i. timed (k + 1) xs ++ timed i ys) at)
 
 -- and their lines
-pub lines-append : (xs ys : List Seen) (n : ℕ) → n ≡ length xs → flat_map line_text (timed 0 (xs ++ ys)) ≡ flat_map line_text (timed 0 xs) ++ flat_map line_text (timed n ys)
+pub lines-append : (xs ys : List Seen) (n : ℕ)
+    → n ≡ length xs → flat_map line_text (timed 0 (xs ++ ys)) ≡ flat_map line_text (timed 0 xs) ++ flat_map line_text (timed n ys)
 lines-append xs ys n e =
     ap (flat_map line_text) (timed-append 0 xs ys) ∙ flat_map-append line_text (timed 0 xs) (timed (0 + length xs) ys)
     ∙ ap (λ k. flat_map line_text (timed 0 xs) ++ flat_map line_text (timed k ys)) (omega (arith, e))
 
 -- a recording of some words, and the lines of the rest
-pub recording-rest : (words : List Seen) (n : ℕ) → written_form (timed 0 (take n words)) ++ flat_map line_text (timed (length (take n words)) (drop n words)) ≡ written_form (timed 0 words)
+pub recording-rest : (words : List Seen) (n : ℕ)
+    → written_form (timed 0 (take n words)) ++ flat_map line_text (timed (length (take n words)) (drop n words))
+    ≡ written_form (timed 0 words)
 recording-rest words n =
     let some = take n words in
     let others = drop n words in
     append_assoc header_text (flat_map line_text (timed 0 some)) (flat_map line_text (timed (length some) others))
-    ∙ ap (λ t. header_text ++ t) (sym (lines-append some others (length some) refl) ∙ ap (λ ws. flat_map line_text (timed 0 ws)) (take-append-drop n words))
+    ∙ ap (λ t. header_text ++ t)
+    (sym (lines-append some others (length some) refl) ∙ ap (λ ws. flat_map line_text (timed 0 ws)) (take-append-drop n words))

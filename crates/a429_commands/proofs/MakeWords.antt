@@ -25,22 +25,27 @@ pub record AreMade (p : Contents) (files : List (List ℕ)) (k number n : ℕ) :
 pub made_start : (p : Contents) (files : List (List ℕ)) → AreMade p files 0 1 0
 made_start p files = record { reports = refl; most = omega arith }
 
-pub made_end : (p : Contents) (files : List (List ℕ)) (k number n : ℕ) → length files ≤ k → AreMade p files k number n → take n (words_made p files) ≡ words_made p files
+pub made_end : (p : Contents) (files : List (List ℕ)) (k number n : ℕ)
+    → length files ≤ k → AreMade p files k number n → take n (words_made p files) ≡ words_made p files
 made_end p files k number n l h =
-    sym (append-nil (take n (words_made p files))) ∙ ap (λ fs. take n (words_made p files) ++ clean_words p 255 number fs) (sym (drop_all k files l)) ∙ h.reports
+    sym (append-nil (take n (words_made p files)))
+    ∙ ap (λ fs. take n (words_made p files) ++ clean_words p 255 number fs) (sym (drop_all k files l)) ∙ h.reports
 
 -- these words are next, and so are their lines
 pub record AreNext (p : Contents) (files : List (List ℕ)) (k number n : ℕ) (new : List Seen) : Type 0 where
   pub made : AreMade p files (k + 1) ((number + 1) % 256) (n + length new)
-  pub lines : flat_map line_text (timed 0 (take (n + length new) (words_made p files))) ≡ flat_map line_text (timed 0 (take n (words_made p files))) ++ flat_map line_text (timed n new)
+  pub lines : flat_map line_text (timed 0 (take (n + length new) (words_made p files)))
+      ≡ flat_map line_text (timed 0 (take n (words_made p files))) ++ flat_map line_text (timed n new)
 
-file_first : (p : Contents) → IsProfile p → (number : ℕ) (f : List ℕ) (files : List (List ℕ)) → clean_words p 255 number (f ∷ files) ≡ clean_words p 255 number (f ∷ []) ++ clean_words p 255 ((number + 1) % 256) files
+file_first : (p : Contents) → IsProfile p → (number : ℕ) (f : List ℕ) (files : List (List ℕ))
+    → clean_words p 255 number (f ∷ files) ≡ clean_words p 255 number (f ∷ []) ++ clean_words p 255 ((number + 1) % 256) files
 file_first p is number f files =
     let us = units_of p 255 f in
     clean_append p.codes (first_number p.codes number) us (units_of_files p 255 files) (units_last p is 255 f)
     ∙ ap (λ vs. clean_blocks p.codes (first_number p.codes number) vs ++ clean_words p 255 ((number + 1) % 256) files) (sym (append-nil us))
 
-made_more : (p : Contents) → IsProfile p → (files : List (List ℕ)) (k number n : ℕ) (f : List ℕ) (new : List Seen) → k < length files → f ≡ get_or files k f → new ≡ clean_words p 255 number (f ∷ []) → AreMade p files k number n → AreNext p files k number n new
+made_more : (p : Contents) → IsProfile p → (files : List (List ℕ)) (k number n : ℕ) (f : List ℕ) (new : List Seen) → k < length files
+    → f ≡ get_or files k f → new ≡ clean_words p 255 number (f ∷ []) → AreMade p files k number n → AreNext p files k number n new
 made_more p is files k number n f new l ef en h = record {
   made = record { reports = ap (λ front. front ++ later) taken ∙ reports; most = omega (arith, short, sizes) };
   lines = ap (λ items. flat_map line_text (timed 0 items)) taken ∙ lines-append done new n (sym size);
@@ -76,27 +81,39 @@ made_more p is files k number n f new l ef en h = record {
     taken = ap (λ m. take m all) (sym short) ∙ ap (take (length (done ++ new))) (sym reports) ∙ take-append_seam (done ++ new) later
 
 -- as a body meets them
-pub next_words : (p : Contents) → IsProfile p → (files : List (Vec ℕ Global)) (k number n : ℕ) (file : Vec ℕ Global) (one : List (Vec ℕ Global)) (new : List Seen) → k < length files → file ≡ get_or files k file → one ≡ file ∷ [] → new ≡ clean_words p 255 number (map (λ f. f.items) one) → AreMade p (map (λ f. f.items) files) k number n → AreNext p (map (λ f. f.items) files) k number n new
+pub next_words : (p : Contents)
+    → IsProfile p → (files : List (Vec ℕ Global)) (k number n : ℕ) (file : Vec ℕ Global) (one : List (Vec ℕ Global)) (new : List Seen)
+    → k < length files → file ≡ get_or files k file → one ≡ file ∷ [] → new ≡ clean_words p 255 number (map (λ f. f.items) one)
+    → AreMade p (map (λ f. f.items) files) k number n → AreNext p (map (λ f. f.items) files) k number n new
 next_words p is files k number n file one new l ef eo en h =
     let at = file_at files k file file.items l ef refl in
-    made_more p is (map (λ f. f.items) files) k number n file.items new at.0 at.1 (en ∙ ap (λ fs. clean_words p 255 number (map (λ f. f.items) fs)) eo) h
+    made_more p is (map (λ f. f.items) files) k number n file.items new at.0 at.1
+    (en ∙ ap (λ fs. clean_words p 255 number (map (λ f. f.items) fs)) eo) h
 
-pub all_words : (p : Contents) (files : List (Vec ℕ Global)) (k number n : ℕ) → length files ≤ k → AreMade p (map (λ f. f.items) files) k number n → take n (words_made p (map (λ f. f.items) files)) ≡ words_made p (map (λ f. f.items) files)
+pub all_words : (p : Contents) (files : List (Vec ℕ Global)) (k number n : ℕ)
+    → length files ≤ k → AreMade p (map (λ f. f.items) files) k number n
+    → take n (words_made p (map (λ f. f.items) files)) ≡ words_made p (map (λ f. f.items) files)
 all_words p files k number n l h = made_end p (map (λ f. f.items) files) k number n (past_files files k l) h
 
 -- ---- none is refused
 
-pub refused_split : (k : ℕ) (one : Option CutFault) (later : Option CleanFault) → refused_or k one later ≡ None → (one ≡ None) × (later ≡ None)
+pub refused_split : (k : ℕ) (one : Option CutFault) (later : Option CleanFault)
+    → refused_or k one later ≡ None → (one ≡ None) × (later ≡ None)
 refused_split k None later e = (refl, e)
 refused_split k (Some f) later e = absurd (cc)
 
-fine_at : (j : ℕ) (files : List (List ℕ)) (k : ℕ) (f : List ℕ) → k < length files → f ≡ get_or files k f → first_refused 255 j files ≡ None → cut_fault 255 f ≡ None
+fine_at : (j : ℕ) (files : List (List ℕ)) (k : ℕ) (f : List ℕ)
+    → k < length files → f ≡ get_or files k f → first_refused 255 j files ≡ None → cut_fault 255 f ≡ None
 fine_at j [] k f l ef h = absurd (omega arith)
 fine_at j (g ∷ files) zero f l ef h = ap (cut_fault 255) ef ∙ (refused_split j (cut_fault 255 g) (first_refused 255 (j + 1) files) h).0
-fine_at j (g ∷ files) (suc k) f l ef h = fine_at (j + 1) files k f (omega arith) ef (refused_split j (cut_fault 255 g) (first_refused 255 (j + 1) files) h).1
+fine_at j (g ∷ files) (suc k) f l ef h =
+    fine_at (j + 1) files k f (omega arith) ef (refused_split j (cut_fault 255 g) (first_refused 255 (j + 1) files) h).1
 
 -- nor is a file alone, as a body meets it
-pub fine_alone : (files : List (Vec ℕ Global)) (k : ℕ) (file : Vec ℕ Global) (one : List (Vec ℕ Global)) → k < length files → file ≡ get_or files k file → one ≡ file ∷ [] → first_refused 255 0 (map (λ f. f.items) files) ≡ None → first_refused 255 0 (map (λ f. f.items) one) ≡ None
+pub fine_alone : (files : List (Vec ℕ Global)) (k : ℕ) (file : Vec ℕ Global) (one : List (Vec ℕ Global))
+    → k < length files → file ≡ get_or files k file → one ≡ file ∷ [] → first_refused 255 0 (map (λ f. f.items) files) ≡ None
+    → first_refused 255 0 (map (λ f. f.items) one) ≡ None
 fine_alone files k file one l ef eo none =
     let at = file_at files k file file.items l ef refl in
-    ap (λ fs. first_refused 255 0 (map (λ f. f.items) fs)) eo ∙ ap (λ o. refused_or 0 o None) (fine_at 0 (map (λ f. f.items) files) k file.items at.0 at.1 none)
+    ap (λ fs. first_refused 255 0 (map (λ f. f.items) fs)) eo
+    ∙ ap (λ o. refused_or 0 o None) (fine_at 0 (map (λ f. f.items) files) k file.items at.0 at.1 none)

@@ -27,9 +27,11 @@ none_before (Some r) new read.TooMany h = ap (λ (q : Recording). q.entries) h
 none_before (Some r) new read.Failed h = ap (λ (q : Recording). q.entries) h
 
 -- so those that came are all before it
-pub all_before : (first left : Option Recording) (es : List Entry) (e : RunFault) → Came first es left → AreAllBefore e left [] → AreAllBefore e first es
+pub all_before : (first left : Option Recording) (es : List Entry) (e : RunFault)
+    → Came first es left → AreAllBefore e left [] → AreAllBefore e first es
 all_before None left es (run.Read f) h none = tt
-all_before (Some r) left es (run.Read f) h none = let rest = rw h.1 at none in ap (λ (q : Recording). q.entries) h.2 ∙ ap (λ (l : List Entry). es ++ l) rest ∙ append-nil es
+all_before (Some r) left es (run.Read f) h none =
+    let rest = rw h.1 at none in ap (λ (q : Recording). q.entries) h.2 ∙ ap (λ (l : List Entry). es ++ l) rest ∙ append-nil es
 all_before first left es (run.Profile f) h none = tt
 all_before first left es (run.Cut k f) h none = tt
 all_before first left es run.TooLong h none = tt
@@ -42,11 +44,13 @@ all_before first left es run.OldFiles h none = tt
 all_before first left es (run.Map f) h none = tt
 all_before first left es (run.Export f) h none = tt
 
-earlier : (first left : Option Recording) (es : List Entry) (f : ReadFault) → Came first es left → IfSome left (λ r. r.fault ≡ Some f) → IfSome first (λ r. r.fault ≡ Some f)
+earlier : (first left : Option Recording) (es : List Entry) (f : ReadFault)
+    → Came first es left → IfSome left (λ r. r.fault ≡ Some f) → IfSome first (λ r. r.fault ≡ Some f)
 earlier None left es f h is = tt
 earlier (Some r) left es f h is = let there = rw h.1 at is in ap (λ (q : Recording). q.fault) h.2 ∙ there
 
-fault_earlier : (first left : Option Recording) (es : List Entry) (f : ReadFault) → Came first es left → IsFaultToCome left f → IsFaultToCome first f
+fault_earlier : (first left : Option Recording) (es : List Entry) (f : ReadFault)
+    → Came first es left → IsFaultToCome left f → IsFaultToCome first f
 fault_earlier first left es read.Header h is = earlier first left es read.Header h is
 fault_earlier first left es (read.Row i) h is = earlier first left es (read.Row i) h is
 fault_earlier first left es (read.TimeBack i) h is = earlier first left es (read.TimeBack i) h is
@@ -56,7 +60,8 @@ fault_earlier first left es read.OutOfMemory h is = is
 fault_earlier first left es read.Failed h is = earlier first left es read.Failed h is
 
 -- the fault of what has still to come is that of all
-pub next_earlier : (first left : Option Recording) (es : List Entry) (failed : Bool) (e : RunFault) → Came first es left → IsNextFault left failed e → IsNextFault first failed e
+pub next_earlier : (first left : Option Recording) (es : List Entry) (failed : Bool) (e : RunFault)
+    → Came first es left → IsNextFault left failed e → IsNextFault first failed e
 next_earlier first left es failed (run.Read f) h is = fault_earlier first left es f h is
 next_earlier first left es failed (run.Profile f) h is = is
 next_earlier first left es failed (run.Cut k f) h is = is

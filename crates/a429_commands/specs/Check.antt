@@ -1,7 +1,8 @@
 -- The verdict on a recording, and how it is written (profile).
-use Rattle.std.specs.Prelude.{◌≡◌, ◌++◌, ℕ, List, codes, false, Option, Some, None}
+use Rattle.std.specs.Prelude.{◌≡◌, ◌++◌, ℕ, Bool, List, [], codes, true, false, Option, Some, None, take}
 use Rattle.a429_profile.specs.Profile.{Contents}
 use Rattle.a429_link.specs.declared.seen.Seen.{Seen}
+use Rattle.a429_link.specs.Run.{BeginsARun}
 use Rattle.a429_record.specs.declared.entry.Entry.{Entry}
 use Rattle.std.specs.Fmt.{decimal}
 use Rattle.a429_cert.specs.Explained.{items_of}
@@ -10,14 +11,15 @@ use Rattle.a429_explain.specs.declared.verdict.Verdict.TheVariants.{Explained, I
 use Rattle.a429_explain.specs.declared.verdict.Reason.{Reason}
 use Rattle.a429_explain.specs.declared.verdict.Reason.TheVariants.{NoForm, NotGranted, WrongAnswer, BadBlock, WrongNumber, OtherBlock, NoRun}
 use Rattle.a429_explain.specs.declared.verdict.Doubt.{Doubt}
-use Rattle.a429_explain.specs.declared.verdict.Doubt.TheVariants.{NeverWhole, NotOneBlock, NotReplayed}
-use Rattle.a429_search.specs.Deciding.{IsImpossibleBy, IsImpossibleUpTo, IsOfCheck, IsReasonAt}
+use Rattle.a429_explain.specs.declared.verdict.Doubt.TheVariants.{NeverWhole, NotOneBlock, NotReplayed, OutOfSteps}
+use Rattle.a429_search.specs.Deciding.{IsImpossibleBy, IsImpossibleUpTo, IsLeftOpen, IsOfCheck, IsReasonAt}
 use Rattle.a429_explain.specs.Verdict.{IsSoundVerdict, IsAccepted, IsOfLeastVersion, IsImpossible, IsDoubted, IsFirst, HasNoForm, IsImpossibility, IsExplanation}
 use Rattle.a429_explain.specs.WithoutLoss.{IsWithoutLoss}
 use Rattle.a429_cert.specs.Stream.{sizes}
 use Rattle.a429_commands.specs.declared.fault.RunFault.{RunFault}
 use Rattle.a429_commands.specs.Ends.{Heard, IsBrokenOff, PromiseOfFile, unheard_causes}
 use Rattle.a429_commands.specs.Output.{Output}
+use Rattle.a429_commands.specs.declared.engines.check.Told.{Told}
 use Rattle.a429_commands.specs.declared.engines.rule.Rule.{Rule}
 use Rattle.a429_commands.specs.declared.engines.rule.Rule.TheVariants as rule
 use Rattle.a429_commands.specs.Fault.{ComesBy}
@@ -39,11 +41,20 @@ abbrev pub doubt_text : Doubt → List ℕ
 doubt_text NeverWhole = codes " NeverWhole\n"
 doubt_text NotOneBlock = codes " NotOneBlock\n"
 doubt_text NotReplayed = codes " NotReplayed\n"
+doubt_text OutOfSteps = codes " OutOfSteps\n"
 
 abbrev pub verdict_text : Verdict → List ℕ
 verdict_text (Explained certificate files) = yes_text (sizes files)
 verdict_text (Impossible i reason) = codes "IMPOSSIBLE " ++ decimal i ++ reason_text reason
 verdict_text (Unexplained i doubt) = codes "UNEXPLAINED " ++ decimal i ++ doubt_text doubt
+
+-- what may follow a verdict
+abbrev pub note_text : Bool → List ℕ
+note_text true = codes "the entries before it are not explained\n"
+note_text false = []
+
+abbrev pub told_text : Told → List ℕ
+told_text t = verdict_text t.verdict ++ note_text t.has_note
 
 -- the certificate that is written: none but of a recording that is explained
 abbrev pub certificate_of : Verdict → Option (List ℕ)
@@ -58,10 +69,11 @@ verdict_status (Unexplained i doubt) = 2
 
 -- ---- what it means
 
--- the verdict of `decide`: an explanation or a doubt of `check`, or an explanation of words of which `check` has a doubt; and impossible
--- where no run has the words up to the entry: from the first word on at which some reason holds, or by `NoRun`
+-- the verdict of `decide`: an explanation of `check`, or one of words of which `check` has a doubt; impossible where no run has the words
+-- up to the entry: from the first word on at which some reason holds, or by `NoRun`; or left open, where its search ended
 pub record IsDecided (p : Contents) (items : List Seen) (v : Verdict) : Type 0 where
   pub of_check : IsOfCheck p items v
+  pub left_open : IsLeftOpen p items v
   pub impossible : IsImpossibleBy p items v
   pub first : (i : ℕ) (reason : Reason) → IsReasonAt p items i reason → IsImpossibleUpTo i v
 
@@ -80,45 +92,58 @@ pub record IsVerdictBy (by_rule : Rule) (p : Contents) (items : List Seen) (v : 
   pub no_form : HasNoForm p.codes items → IsImpossibility v
   pub without_loss : IsWithoutLoss p items → IsExplanation v
 
+-- the words before an entry that is impossible are those with which some run's trace begins: so no earlier entry is impossible
+abbrev pub IsEarliest : Contents → List Seen → Verdict → Type 0
+IsEarliest p items (Impossible i reason) = BeginsARun p (take i items)
+IsEarliest p items _ = Unit {0}
+
+-- `decide` says by a note where it has not found that the entry is the earliest; after a verdict of `check` there is none
+abbrev pub IsNotedBy : Rule → Contents → List Seen → Told → Type 0
+IsNotedBy rule.Check p items t = t.has_note ≡ false
+IsNotedBy rule.Decide p items t = t.has_note ≡ false → IsEarliest p items t.verdict
+
+abbrev pub IsToldBy : Rule → Contents → List Seen → Told → Type 0
+IsToldBy by_rule p items t = IsVerdictBy by_rule p items t.verdict × IsNotedBy by_rule p items t
+
 -- it is one on a recording, by the profile whose text the bytes are; the recording's bytes are known where its reader says them
-abbrev pub IsVerdictOn : Rule → List ℕ → Option (List ℕ) → Verdict → Type 0
-IsVerdictOn by_rule profile recording v = (says : SayInput profile recording) × IsVerdictBy by_rule says.contents (items_of says.entries) v
+abbrev pub IsToldOn : Rule → List ℕ → Option (List ℕ) → Told → Type 0
+IsToldOn by_rule profile recording t = (says : SayInput profile recording) × IsToldBy by_rule says.contents (items_of says.entries) t
 
 -- it is one on a recording, under a profile that was read
-abbrev pub IsVerdictUnder : Rule → Contents → Option (List ℕ) → Verdict → Type 0
-IsVerdictUnder by_rule p recording v = (es : List Entry) × SaysEntries recording es × IsVerdictBy by_rule p (items_of es) v
+abbrev pub IsToldUnder : Rule → Contents → Option (List ℕ) → Told → Type 0
+IsToldUnder by_rule p recording t = (es : List Entry) × SaysEntries recording es × IsToldBy by_rule p (items_of es) t
 
 -- ---- how it is reported
 
 -- the status and the text of such a verdict, with its certificate or none
-pub record TellsVerdict (IsSuch : Verdict → Type 0) (certificate : Option (List ℕ)) (status : ℕ) (text : List ℕ) : Type 0 where
-  pub verdict : Verdict
-  pub is : IsSuch verdict
-  pub certificate_is : certificate ≡ certificate_of verdict
-  pub status_is : status ≡ verdict_status verdict
-  pub text_is : text ≡ verdict_text verdict
+pub record TellsVerdict (IsSuch : Told → Type 0) (certificate : Option (List ℕ)) (status : ℕ) (text : List ℕ) : Type 0 where
+  pub told : Told
+  pub is : IsSuch told
+  pub certificate_is : certificate ≡ certificate_of told.verdict
+  pub status_is : status ≡ verdict_status told.verdict
+  pub text_is : text ≡ told_text told
 
 -- what the certificate's writer has where it failed: a prefix of the certificate
 abbrev pub LeavesCertificate : {C : Type 0} → Output C → Verdict → Type 0
 LeavesCertificate c v = (text : List ℕ) × (certificate_of v ≡ Some text) × IsBrokenOff c ⊥ text
 
 -- such a verdict is reported: first its certificate, where it has one, and then its text
-abbrev pub of_verdicts : (Verdict → Type 0) → (RunFault → Type 0) → PromiseOfFile
-of_verdicts IsSuch Refuses = record {
+abbrev pub of_told : (Told → Type 0) → (RunFault → Type 0) → PromiseOfFile
+of_told IsSuch Refuses = record {
   after = λ certificate. record {
     says = TellsVerdict IsSuch certificate;
     stops = λ e text. ⊥;
     begins = λ text. (status : ℕ) × TellsVerdict IsSuch certificate status text;
     refuses = λ e. (certificate ≡ None) × Refuses e;
   };
-  breaks = λ text. (v : Verdict) × IsSuch v × (certificate_of v ≡ Some text);
+  breaks = λ text. (t : Told) × IsSuch t × (certificate_of t.verdict ≡ Some text);
   other = ⊥;
 }
 
 -- the verdict on a recording, whose reader has not failed
-abbrev pub IsVerdictOfHeard : Rule → List ℕ → Heard → Verdict → Type 0
-IsVerdictOfHeard by_rule profile rec v = IsVerdictOn by_rule profile rec.bytes v × (rec.failed ≡ false)
+abbrev pub IsToldOfHeard : Rule → List ℕ → Heard → Told → Type 0
+IsToldOfHeard by_rule profile rec t = IsToldOn by_rule profile rec.bytes t × (rec.failed ≡ false)
 
 -- `check` and `decide` report it; where there is none they write nothing
 abbrev pub of_check : Rule → List ℕ → Heard → PromiseOfFile
-of_check by_rule profile rec = of_verdicts (IsVerdictOfHeard by_rule profile rec) (ComesBy (unheard_causes profile rec))
+of_check by_rule profile rec = of_told (IsToldOfHeard by_rule profile rec) (ComesBy (unheard_causes profile rec))

@@ -35,13 +35,18 @@ pub record Stands (said : List (Option Form)) (left : ℕ) (found : List Role) (
   pub inside : left ≤ length said
 
 -- a word before it has its role
-pub stands_next : (c : Codes) (items : List Seen) (n left : ℕ) (h : DecodedWord) (found new : List Role) (ahead next : Ahead) (r : Role) → n + 1 ≡ left → IsHeardAt c items n h → ((more : List (Option Form)) → IsAhead more ahead → r ≡ role_of h.form more) → ((more : List (Option Form)) → IsAhead more ahead → IsAhead (h.form ∷ more) next) → new ≡ found ++ r ∷ [] → Stands (forms_of c items) left found ahead → Stands (forms_of c items) n new next
+pub stands_next : (c : Codes) (items : List Seen) (n left : ℕ) (h : DecodedWord) (found new : List Role) (ahead next : Ahead) (r : Role)
+    → n + 1 ≡ left → IsHeardAt c items n h → ((more : List (Option Form)) → IsAhead more ahead → r ≡ role_of h.form more)
+    → ((more : List (Option Form)) → IsAhead more ahead → IsAhead (h.form ∷ more) next) → new ≡ found ++ r ∷ []
+    → Stands (forms_of c items) left found ahead → Stands (forms_of c items) n new next
 stands_next c items n left h found new ahead next r l k role goes pushed s =
     let forms = forms_of c items in
     let here : drop n forms ≡ h.form ∷ drop left forms = forms_from c items n h k ∙ ap (λ (m : ℕ). h.form ∷ drop m forms) l in
     let inside = s.inside in
     record {
-      found_is = ap reverse pushed ∙ reverse-append found (r ∷ []) ∙ ap (λ (q : Role). q ∷ reverse found) (role (drop left forms) s.ahead_is) ∙ ap (λ (rs : List Role). role_of h.form (drop left forms) ∷ rs) s.found_is ∙ ap roles (sym here);
+      found_is =
+          ap reverse pushed ∙ reverse-append found (r ∷ []) ∙ ap (λ (q : Role). q ∷ reverse found) (role (drop left forms) s.ahead_is)
+          ∙ ap (λ (rs : List Role). role_of h.form (drop left forms) ∷ rs) s.found_is ∙ ap roles (sym here);
       ahead_is = subst (λ (xs : List (Option Form)). IsAhead xs next) (sym here) (goes (drop left forms) s.ahead_is);
       inside = omega (arith, l, inside);
     }
@@ -68,12 +73,15 @@ asks (sight.Form (Part s)) more = refl
 asks (sight.Form (Eot f k)) more = refl
 
 -- a role says how many words a request asks for
-pub asked_is : (c : Codes) (items : List Seen) (rs : List Role) (n : ℕ) (d : Role) → rs ≡ roles (forms_of c items) → n < length items → asked (get_or rs n d) ≡ wanted (sight_at c (slice_get items n))
+pub asked_is : (c : Codes) (items : List Seen) (rs : List Role) (n : ℕ) (d : Role)
+    → rs ≡ roles (forms_of c items) → n < length items → asked (get_or rs n d) ≡ wanted (sight_at c (slice_get items n))
 asked_is c items rs n d all l = ap (λ (xs : List Role). asked (get_or xs n d)) all ∙ by items n l
   where
-    by : (items : List Seen) (n : ℕ) → n < length items → asked (get_or (roles (forms_of c items)) n d) ≡ wanted (sight_at c (slice_get items n))
+    by : (items : List Seen) (n : ℕ)
+        → n < length items → asked (get_or (roles (forms_of c items)) n d) ≡ wanted (sight_at c (slice_get items n))
     by [] n l = absurd (omega arith)
-    by (i ∷ items) zero l = ap (λ (o : Option Form). asked (role_of o (forms_of c items))) (sym (form_of-sight c i.bus i.word)) ∙ asks (sight_of c i.bus i.word) (forms_of c items)
+    by (i ∷ items) zero l = ap (λ (o : Option Form). asked (role_of o (forms_of c items))) (sym (form_of-sight c i.bus i.word))
+        ∙ asks (sight_of c i.bus i.word) (forms_of c items)
     by (i ∷ items) (suc n) l = by items n (omega arith)
 
 -- ---- the role of a word
@@ -83,12 +91,14 @@ pub record IsRole (r : Role) (o : Option Form) : Type 0 where
   pub more : List (Option Form)
   pub is : r ≡ role_of o more
 
-pub role_here : (c : Codes) (items : List Seen) (rs : List Role) (n : ℕ) (d : Role) (i : Seen) → rs ≡ roles (forms_of c items) → slice_get items n ≡ Some i → IsRole (get_or rs n d) (form_of c i.bus i.word)
+pub role_here : (c : Codes) (items : List Seen) (rs : List Role) (n : ℕ) (d : Role) (i : Seen)
+    → rs ≡ roles (forms_of c items) → slice_get items n ≡ Some i → IsRole (get_or rs n d) (form_of c i.bus i.word)
 role_here c items rs n d i all at = subst (λ (xs : List Role). IsRole (get_or xs n d) (form_of c i.bus i.word)) (sym all) (by items n at)
   where
     by : (items : List Seen) (n : ℕ) → slice_get items n ≡ Some i → IsRole (get_or (roles (forms_of c items)) n d) (form_of c i.bus i.word)
     by [] n at = absurd (cc at)
-    by (x ∷ items) zero at = record { more = forms_of c items; is = ap (λ (j : Seen). role_of (form_of c j.bus j.word) (forms_of c items)) (cc at) }
+    by (x ∷ items) zero at =
+        record { more = forms_of c items; is = ap (λ (j : Seen). role_of (form_of c j.bus j.word) (forms_of c items)) (cc at) }
     by (x ∷ items) (suc n) at = by items n at
 
 -- one of a block has a form of one

@@ -15,7 +15,8 @@ use Rattle.a429_explain.specs.Decoded.{sight_at, IsHeardAt, forms_of}
 
 -- ---- the form of a word
 
-pub heard_here : (c : Codes) (items : List Seen) (n : ℕ) (i : Seen) (s : Sight) (o : Option Form) → slice_get items n ≡ Some i → s ≡ sight_at c (slice_get items n) → o ≡ form_in s → IsHeardAt c items n (record { word = i.word; form = o })
+pub heard_here : (c : Codes) (items : List Seen) (n : ℕ) (i : Seen) (s : Sight) (o : Option Form) → slice_get items n ≡ Some i
+    → s ≡ sight_at c (slice_get items n) → o ≡ form_in s → IsHeardAt c items n (record { word = i.word; form = o })
 heard_here c items n i s o is said form = record {
   item = i;
   is = is;
@@ -28,18 +29,21 @@ pub formed_range : (p : Contents) → IsProfile p → (b : Bus) (w : ℕ) (o : O
 formed_range p is b w None e = tt
 formed_range p is b w (Some x) e = ((form_of-is p is b w x).0 (sym e)).1.range
 
-pub heard_range : (p : Contents) → IsProfile p → (items : List Seen) (n : ℕ) (h : DecodedWord) → IsHeardAt p.codes items n h → IfSome h.form IsInRange
+pub heard_range : (p : Contents)
+    → IsProfile p → (items : List Seen) (n : ℕ) (h : DecodedWord) → IsHeardAt p.codes items n h → IfSome h.form IsInRange
 heard_range p is items n h k = formed_range p is k.item.bus k.item.word h.form (sym k.form_is)
 
 -- ---- the forms of all words
 
 -- those from a word on
-pub forms_from : (c : Codes) (items : List Seen) (n : ℕ) (h : DecodedWord) → IsHeardAt c items n h → drop n (forms_of c items) ≡ h.form ∷ drop (n + 1) (forms_of c items)
+pub forms_from : (c : Codes) (items : List Seen) (n : ℕ) (h : DecodedWord)
+    → IsHeardAt c items n h → drop n (forms_of c items) ≡ h.form ∷ drop (n + 1) (forms_of c items)
 forms_from c items n h k =
     let one : n + 1 ≡ suc n = omega arith in
     rw one (by items n k.is)
   where
-    by : (items : List Seen) (n : ℕ) → slice_get items n ≡ Some k.item → drop n (forms_of c items) ≡ h.form ∷ drop (suc n) (forms_of c items)
+    by : (items : List Seen) (n : ℕ)
+        → slice_get items n ≡ Some k.item → drop n (forms_of c items) ≡ h.form ∷ drop (suc n) (forms_of c items)
     by [] n e = absurd (cc e)
     by (i ∷ items) zero e = ap (λ (x : Option Form). x ∷ forms_of c items) (ap (λ (o : Option Seen). form_at o) e ∙ k.form_is)
       where

@@ -27,7 +27,8 @@ passed_on is k n l e =
     let one : k + 1 ≡ suc k = omega arith in
     ap (passed_with is k) more ∙ passed_one is k (n - (k + 1)) e ∙ ap (λ (j : ℕ). passed_with is j (n - (k + 1))) (sym one)
 
-after_all : (c : Codes) (u : LduValue) (place : UnitNumber) (xs ys : List Seen) (o : Option ℕ) → passed_after c u place (xs ++ ys) o ≡ passed_after c u place ys (passed_after c u place xs o)
+after_all : (c : Codes) (u : LduValue) (place : UnitNumber) (xs ys : List Seen) (o : Option ℕ)
+    → passed_after c u place (xs ++ ys) o ≡ passed_after c u place ys (passed_after c u place xs o)
 after_all c u place [] ys o = refl
 after_all c u place (x ∷ xs) ys o = after_all c u place xs ys (option_and_then (passing c u place x) o)
 
@@ -40,16 +41,20 @@ pub length-items_of : (es : List Entry) → length (items_of es) ≡ length es
 length-items_of [] = refl
 length-items_of (e ∷ es) = ap suc (length-items_of es)
 
-range_push : (xs : List Seen) (a n : ℕ) (d : Seen) → a ≤ n → n < length xs → slice_range xs a (n + 1) ≡ slice_range xs a n ++ get_or xs n d ∷ []
+range_push : (xs : List Seen) (a n : ℕ) (d : Seen)
+    → a ≤ n → n < length xs → slice_range xs a (n + 1) ≡ slice_range xs a n ++ get_or xs n d ∷ []
 range_push xs a n d m l =
     let more : (n + 1) - a ≡ suc (n - a) = omega arith in
     let back : a + (n - a) ≡ n = omega arith in
     let long : length (drop a xs) ≡ length xs - a = length-drop a xs in
     let inside : n - a < length (drop a xs) = omega (arith, long) in
-    ap (λ (k : ℕ). take k (drop a xs)) more ∙ take-suc (drop a xs) (n - a) d inside ∙ ap (λ (x : Seen). take (n - a) (drop a xs) ++ x ∷ []) (get_or-drop a xs (n - a) d ∙ ap (λ (k : ℕ). get_or xs k d) back)
+    ap (λ (k : ℕ). take k (drop a xs)) more ∙ take-suc (drop a xs) (n - a) d inside
+    ∙ ap (λ (x : Seen). take (n - a) (drop a xs) ++ x ∷ []) (get_or-drop a xs (n - a) d ∙ ap (λ (k : ℕ). get_or xs k d) back)
 
 -- with the next word
-pub passed_next : (c : Codes) (u : LduValue) (place : UnitNumber) (items : List Seen) (a n : ℕ) (i : Seen) (passed : ℕ) → a ≤ n → slice_get items n ≡ Some i → passed_after c u place (slice_range items a n) (Some 0) ≡ Some passed → passed_after c u place (slice_range items a (n + 1)) (Some 0) ≡ passing c u place i passed
+pub passed_next : (c : Codes) (u : LduValue) (place : UnitNumber) (items : List Seen) (a n : ℕ) (i : Seen) (passed : ℕ)
+    → a ≤ n → slice_get items n ≡ Some i → passed_after c u place (slice_range items a n) (Some 0) ≡ Some passed
+    → passed_after c u place (slice_range items a (n + 1)) (Some 0) ≡ passing c u place i passed
 passed_next c u place items a n i passed m e h =
     ap (λ (xs : List Seen). passed_after c u place xs (Some 0)) (range_push items a n i m (slice_get_within items n i e))
     ∙ after_all c u place (slice_range items a n) (get_or items n i ∷ []) (Some 0)
@@ -57,11 +62,14 @@ passed_next c u place items a n i passed m e h =
     ∙ ap (λ (x : Seen). passing c u place x passed) (get_or_from_slice_get items n i i e)
 
 -- before the first
-pub passed_none : (c : Codes) (u : LduValue) (place : UnitNumber) (items : List Seen) (a : ℕ) → passed_after c u place (slice_range items a a) (Some 0) ≡ Some 0
-passed_none c u place items a = let none : a - a ≡ 0 = omega arith in ap (λ (k : ℕ). passed_after c u place (take k (drop a items)) (Some 0)) none
+pub passed_none : (c : Codes) (u : LduValue) (place : UnitNumber) (items : List Seen) (a : ℕ)
+    → passed_after c u place (slice_range items a a) (Some 0) ≡ Some 0
+passed_none c u place items a =
+    let none : a - a ≡ 0 = omega arith in ap (λ (k : ℕ). passed_after c u place (take k (drop a items)) (Some 0)) none
 
 -- the role of a word tells how many are passed
-by_role : (o : Option Form) (more : List (Option Form)) (matched : Option ℕ) (passed : ℕ) → passing_by (role_of o more) matched passed ≡ passing_as o matched passed
+by_role : (o : Option Form) (more : List (Option Form)) (matched : Option ℕ) (passed : ℕ)
+    → passing_by (role_of o more) matched passed ≡ passing_as o matched passed
 by_role (Some (Rts n)) more matched passed = refl
 by_role (Some (Cts n)) more matched passed = refl
 by_role (Some (Ack f l)) more matched passed = refl
@@ -71,7 +79,12 @@ by_role (Some (Part s)) more matched passed = refl
 by_role (Some (Eot f k)) more matched passed = refl
 by_role None more matched passed = refl
 
-pub passed_by : (c : Codes) (u : LduValue) (place : UnitNumber) (items : List Seen) (a n : ℕ) (i : Seen) (role : Role) (passed : ℕ) (r : Option ℕ) → a ≤ n → slice_get items n ≡ Some i → IsRole role (form_of c i.bus i.word) → passed_after c u place (slice_range items a n) (Some 0) ≡ Some passed → r ≡ passing_by role (passed_with (is_word c u place i.word) passed (count_of u - passed)) passed → passed_after c u place (slice_range items a (n + 1)) (Some 0) ≡ r
+pub passed_by : (c : Codes) (u : LduValue) (place : UnitNumber) (items : List Seen) (a n : ℕ) (i : Seen) (role : Role) (passed : ℕ)
+    (r : Option ℕ)
+    → a ≤ n → slice_get items n ≡ Some i → IsRole role (form_of c i.bus i.word)
+    → passed_after c u place (slice_range items a n) (Some 0) ≡ Some passed
+    → r ≡ passing_by role (passed_with (is_word c u place i.word) passed (count_of u - passed)) passed
+    → passed_after c u place (slice_range items a (n + 1)) (Some 0) ≡ r
 passed_by c u place items a n i role passed r m at k h e =
     let matched = passed_with (is_word c u place i.word) passed (count_of u - passed) in
     passed_next c u place items a n i passed m at h

@@ -16,10 +16,12 @@ sending_next : (k : ℕ) → k < 254 → next_line (sending k) ≡ carried (k + 
 sending_next k less = let yes : nat_lt k 254 ≡ true = grind (arith, nat_tests) in rw yes refl
 
 -- the first of the likely lines after one, and the second
-two_lines : (m a b : MovedLine) (n : ℕ) → next_line m ≡ a → next_line a ≡ b → likely_lines m (suc (suc n)) ≡ line_after (Moved a) ++ (line_after (Moved b) ++ likely_lines b n)
+two_lines : (m a b : MovedLine) (n : ℕ)
+    → next_line m ≡ a → next_line a ≡ b → likely_lines m (suc (suc n)) ≡ line_after (Moved a) ++ (line_after (Moved b) ++ likely_lines b n)
 two_lines m a b n e f =
     subst (λ (c : MovedLine). likely_lines m (suc (suc n)) ≡ line_after (Moved a) ++ (line_after (Moved c) ++ likely_lines c n)) f
-    (subst (λ (c : MovedLine). likely_lines m (suc (suc n)) ≡ line_after (Moved c) ++ (line_after (Moved (next_line c)) ++ likely_lines (next_line c) n)) e refl)
+    (subst (λ (c : MovedLine).
+    likely_lines m (suc (suc n)) ≡ line_after (Moved c) ++ (line_after (Moved (next_line c)) ++ likely_lines (next_line c) n)) e refl)
 
 two_last : (m a b : MovedLine) (n : ℕ) → next_line m ≡ a → next_line a ≡ b → last_line m (suc (suc n)) ≡ last_line b n
 two_last m a b n e f =
@@ -39,7 +41,8 @@ block_likely k (suc n) few =
     let one : k + 1 ≡ suc k = omega arith in
     let rest = likely_lines (carried (k + 1)) (n + n) in
     ap (likely_lines (carried k)) two
-    ∙ two_lines (carried k) (sending k) (carried (k + 1)) (n + n) (carried_next k (omega (arith, few))) (sending_next k (omega (arith, few)))
+    ∙ two_lines (carried k) (sending k) (carried (k + 1)) (n + n) (carried_next k (omega (arith, few)))
+    (sending_next k (omega (arith, few)))
     ∙ sym (append_assoc (line_after (Moved (sending k))) (line_after (Moved (carried (k + 1)))) rest)
     ∙ ap (λ (t : List ℕ). t ++ rest) (lines_of_word k)
     ∙ ap (λ (t : List ℕ). word_lines k ++ t) (block_likely (k + 1) n (omega (arith, few)) ∙ ap (λ (j : ℕ). block_lines j n) one)
@@ -68,7 +71,8 @@ last_both m zero b = let none : zero + b ≡ b = omega arith in rw none refl
 last_both m (suc a) b = let sum : suc a + b ≡ suc (a + b) = omega arith in rw sum (last_both (next_line m) a b)
 
 -- so many of those that are left are put
-pub likely_some : (said all : List ℕ) (m last : MovedLine) (left some : ℕ) → some ≤ left → last ≡ last_line m some → said ++ likely_lines m left ≡ all
+pub likely_some : (said all : List ℕ) (m last : MovedLine) (left some : ℕ)
+    → some ≤ left → last ≡ last_line m some → said ++ likely_lines m left ≡ all
     → (said ++ likely_lines m some) ++ likely_lines last (left - some) ≡ all
 likely_some said all m last left some few is h =
     let sum : some + (left - some) ≡ left = omega (arith, few) in
@@ -79,8 +83,10 @@ likely_some said all m last left some few is h =
     ∙ h
 
 -- a word more, after the last of them
-pub word_likely : (front : List ℕ) (first last : MovedLine) (more place : ℕ) → place < 254 → last ≡ last_line first more → last ≡ carried place
-    → front ++ (line_after (Moved first) ++ likely_lines first (more + 2)) ≡ (front ++ (line_after (Moved first) ++ likely_lines first more)) ++ word_lines place
+pub word_likely : (front : List ℕ) (first last : MovedLine) (more place : ℕ)
+    → place < 254 → last ≡ last_line first more → last ≡ carried place
+    → front ++ (line_after (Moved first) ++ likely_lines first (more + 2))
+    ≡ (front ++ (line_after (Moved first) ++ likely_lines first more)) ++ word_lines place
 word_likely front first last more place less is here =
     let head = line_after (Moved first) in
     let tail = likely_lines first more in
@@ -91,6 +97,7 @@ word_likely front first last more place less is here =
     ∙ ap (λ (t : List ℕ). front ++ t) (sym (append_assoc head tail (word_lines place)))
     ∙ sym (append_assoc front (head ++ tail) (word_lines place))
 
-pub word_last : (first last : MovedLine) (more place : ℕ) → place < 254 → last ≡ last_line first more → last ≡ carried place → carried (place + 1) ≡ last_line first (more + 2)
+pub word_last : (first last : MovedLine) (more place : ℕ)
+    → place < 254 → last ≡ last_line first more → last ≡ carried place → carried (place + 1) ≡ last_line first (more + 2)
 word_last first last more place less is here =
     sym (last_both first more 2 ∙ ap (λ (l : MovedLine). last_line l 2) (sym is ∙ here) ∙ block_last place 1 (omega (arith, less)))

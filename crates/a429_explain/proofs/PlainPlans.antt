@@ -51,7 +51,8 @@ others_thin : (c : Codes) (items : List Seen) → AreOthers c (without_free c it
 others_thin c [] h = tt
 others_thin c (i ∷ items) h = by (is_free c i.bus i.word) refl (others_thin c items) h
   where
-    by : (t : Bool) → is_free c i.bus i.word ≡ t → (AreOthers c (without_free c items) → AreOthers c items) → AreOthers c (cond t (without_free c items) (i ∷ without_free c items)) → AreOthers c (i ∷ items)
+    by : (t : Bool) → is_free c i.bus i.word ≡ t → (AreOthers c (without_free c items) → AreOthers c items)
+        → AreOthers c (cond t (without_free c items) (i ∷ without_free c items)) → AreOthers c (i ∷ items)
     by true e more k = (free_sight c i.bus i.word e, more k)
     by false e more k = (k.0, more k.1)
 
@@ -61,34 +62,44 @@ of_block_other (Some (Part s)) h = tt
 of_block_other (Some (Eot f k)) h = tt
 of_block_other _ h = absurd h
 
-block_others : (c : Codes) (ws : List ℕ) (i : Seen) → AreOfBlock c ws → wanted (sight_of c i.bus i.word) ≡ None → AreOthers c (map on_a ws ++ i ∷ [])
+block_others : (c : Codes) (ws : List ℕ) (i : Seen)
+    → AreOfBlock c ws → wanted (sight_of c i.bus i.word) ≡ None → AreOthers c (map on_a ws ++ i ∷ [])
 block_others c [] i h k = (k, tt)
-block_others c (w ∷ ws) i h k = (other_wants c bus.A w (form_of c bus.A w) refl (of_block_other (form_of c bus.A w) h.0), block_others c ws i h.1 k)
+block_others c (w ∷ ws) i h k =
+    (other_wants c bus.A w (form_of c bus.A w) refl (of_block_other (form_of c bus.A w) h.0), block_others c ws i h.1 k)
 
 -- of the words of a block that crosses without loss the first alone is a request
-others_after : (p : Contents) (place : UnitNumber) (u : LduValue) → HasForms p place u → AreOthers p.codes (on_b (word_number p.codes (Cts (count_of u))) ∷ (map on_a (block_of p.codes u place.file place.ldu) ++ on_b (word_number p.codes (Ack place.file place.ldu)) ∷ []))
+others_after : (p : Contents) (place : UnitNumber) (u : LduValue) → HasForms p place u
+    → AreOthers p.codes (on_b (word_number p.codes (Cts (count_of u)))
+    ∷ (map on_a (block_of p.codes u place.file place.ldu) ++ on_b (word_number p.codes (Ack place.file place.ldu)) ∷ []))
 others_after p place u s =
     let c = p.codes in (
       other_wants c bus.B (word_number c (Cts (count_of u))) (Some (Cts (count_of u))) s.clear tt,
-      block_others c (block_of c u place.file place.ldu) (on_b (word_number c (Ack place.file place.ldu))) (block_has_forms p place u s) (other_wants c bus.B (word_number c (Ack place.file place.ldu)) (Some (Ack place.file place.ldu)) s.settled tt),
+      block_others c (block_of c u place.file place.ldu) (on_b (word_number c (Ack place.file place.ldu))) (block_has_forms p place u s)
+          (other_wants c bus.B (word_number c (Ack place.file place.ldu)) (Some (Ack place.file place.ldu)) s.settled tt),
     )
 
 -- ---- the plans
 
 -- no plan is for a word that is no request
-pub plain_past : (c : Codes) (k : ℕ) (us : List LduValue) (i : Seen) (items : List Seen) → wanted (sight_of c i.bus i.word) ≡ None → plain_plans c k us (i ∷ items) ≡ plain_plans c (k + 1) us items
+pub plain_past : (c : Codes) (k : ℕ) (us : List LduValue) (i : Seen) (items : List Seen)
+    → wanted (sight_of c i.bus i.word) ≡ None → plain_plans c k us (i ∷ items) ≡ plain_plans c (k + 1) us items
 plain_past c k [] i items w = refl
-plain_past c k (u ∷ us) i items w = ap (λ (o : Option ℕ). cond (is_some o) (plain k u ∷ plain_plans c (k + 1) us items) (plain_plans c (k + 1) (u ∷ us) items)) w
+plain_past c k (u ∷ us) i items w =
+    ap (λ (o : Option ℕ). cond (is_some o) (plain k u ∷ plain_plans c (k + 1) us items) (plain_plans c (k + 1) (u ∷ us) items)) w
 
 -- the first is for a request
-pub plain_asked : (c : Codes) (k : ℕ) (u : LduValue) (us : List LduValue) (i : Seen) (items : List Seen) (n : ℕ) → wanted (sight_of c i.bus i.word) ≡ Some n → plain_plans c k (u ∷ us) (i ∷ items) ≡ plain k u ∷ plain_plans c (k + 1) us items
-plain_asked c k u us i items n w = ap (λ (o : Option ℕ). cond (is_some o) (plain k u ∷ plain_plans c (k + 1) us items) (plain_plans c (k + 1) (u ∷ us) items)) w
+pub plain_asked : (c : Codes) (k : ℕ) (u : LduValue) (us : List LduValue) (i : Seen) (items : List Seen) (n : ℕ)
+    → wanted (sight_of c i.bus i.word) ≡ Some n → plain_plans c k (u ∷ us) (i ∷ items) ≡ plain k u ∷ plain_plans c (k + 1) us items
+plain_asked c k u us i items n w =
+    ap (λ (o : Option ℕ). cond (is_some o) (plain k u ∷ plain_plans c (k + 1) us items) (plain_plans c (k + 1) (u ∷ us) items)) w
 
 pub plain_end : (c : Codes) (k : ℕ) (us : List LduValue) → plain_plans c k us [] ≡ []
 plain_end c k [] = refl
 plain_end c k (u ∷ us) = refl
 
-plain_over : (c : Codes) (k : ℕ) (us : List LduValue) (n : ℕ) (items : List Seen) → AreOthers c (take n items) → plain_plans c k us items ≡ plain_plans c (k + n) us (drop n items)
+plain_over : (c : Codes) (k : ℕ) (us : List LduValue) (n : ℕ) (items : List Seen)
+    → AreOthers c (take n items) → plain_plans c k us items ≡ plain_plans c (k + n) us (drop n items)
 plain_over c k us zero items h = let same : k + 0 ≡ k = omega arith in ap (λ (m : ℕ). plain_plans c m us items) (sym same)
 plain_over c k us (suc n) [] h = plain_end c k us ∙ sym (plain_end c (k + suc n) us)
 plain_over c k us (suc n) (i ∷ items) h =
@@ -96,12 +107,19 @@ plain_over c k us (suc n) (i ∷ items) h =
     plain_past c k us i items h.0 ∙ plain_over c (k + 1) us n items h.1 ∙ ap (λ (m : ℕ). plain_plans c m us (drop n items)) same
 
 -- those from the first word of a block on are its own, and those from the end of its group on
-pub plain_group : (p : Contents) (place : UnitNumber) (u : LduValue) (us : List LduValue) (k n count : ℕ) (i : Seen) (items : List Seen) → HasForms p place u → is_free p.codes i.bus i.word ≡ false → wanted (sight_of p.codes i.bus i.word) ≡ Some count → without_free p.codes (take (suc n) (i ∷ items)) ≡ clean_block p.codes place u → plain_plans p.codes k (u ∷ us) (i ∷ items) ≡ plain k u ∷ plain_plans p.codes (k + suc n) us (drop n items)
+pub plain_group : (p : Contents) (place : UnitNumber) (u : LduValue) (us : List LduValue) (k n count : ℕ) (i : Seen) (items : List Seen)
+    → HasForms p place u → is_free p.codes i.bus i.word ≡ false → wanted (sight_of p.codes i.bus i.word) ≡ Some count
+    → without_free p.codes (take (suc n) (i ∷ items)) ≡ clean_block p.codes place u
+    → plain_plans p.codes k (u ∷ us) (i ∷ items) ≡ plain k u ∷ plain_plans p.codes (k + suc n) us (drop n items)
 plain_group p place u us k n count i items s kept w e =
     let c = p.codes in
-    let all : i ∷ without_free c (take n items) ≡ clean_block c place u = sym (ap (λ (t : Bool). cond t (without_free c (take n items)) (i ∷ without_free c (take n items))) kept) ∙ e in
-    let left : without_free c (take n items) ≡ on_b (word_number c (Cts (count_of u))) ∷ (map on_a (block_of c u place.file place.ldu) ++ on_b (word_number c (Ack place.file place.ldu)) ∷ []) = cc all in
+    let all : i ∷ without_free c (take n items) ≡ clean_block c place u =
+    sym (ap (λ (t : Bool). cond t (without_free c (take n items)) (i ∷ without_free c (take n items))) kept) ∙ e in
+    let left : without_free c (take n items) ≡ on_b (word_number c (Cts (count_of u)))
+    ∷ (map on_a (block_of c u place.file place.ldu) ++ on_b (word_number c (Ack place.file place.ldu)) ∷ []) =
+    cc all in
     let others = others_thin c (take n items) (subst (AreOthers c) (sym left) (others_after p place u s)) in
     let same : (k + 1) + n ≡ k + suc n = omega arith in
     plain_asked c k u us i items count w
-    ∙ ap (λ (ps : List Plan). plain k u ∷ ps) (plain_over c (k + 1) us n items others ∙ ap (λ (m : ℕ). plain_plans c m us (drop n items)) same)
+    ∙ ap (λ (ps : List Plan). plain k u ∷ ps)
+    (plain_over c (k + 1) us n items others ∙ ap (λ (m : ℕ). plain_plans c m us (drop n items)) same)

@@ -30,15 +30,18 @@ left_fit p (Request k first) n (plan ∷ plans) h = by (plan.at == n)
 left_fit p _ n plans h = h
 
 -- one entry more
-after_push : (rs : List Role) (r : Role) (at : ℕ) (plans : List Plan) → plans_after (rs ++ r ∷ []) at plans ≡ plans_left r (at + length rs) (plans_after rs at plans)
+after_push : (rs : List Role) (r : Role) (at : ℕ) (plans : List Plan)
+    → plans_after (rs ++ r ∷ []) at plans ≡ plans_left r (at + length rs) (plans_after rs at plans)
 after_push [] r at plans = let none : at ≡ at + 0 = omega arith in ap (λ (n : ℕ). plans_left r n plans) none
 after_push (x ∷ rs) r at plans =
     let one : at + 1 + length rs ≡ at + suc (length rs) = omega arith in
     after_push rs r (at + 1) (plans_left x at plans) ∙ ap (λ (n : ℕ). plans_left r n (plans_after rs (at + 1) (plans_left x at plans))) one
 
-pub after_more : (rs : List Role) (n : ℕ) (r : Role) (plans : List Plan) → n < length rs → r ≡ get_or rs n r → plans_after (take (n + 1) rs) 0 plans ≡ plans_left r n (plans_after (take n rs) 0 plans)
+pub after_more : (rs : List Role) (n : ℕ) (r : Role) (plans : List Plan)
+    → n < length rs → r ≡ get_or rs n r → plans_after (take (n + 1) rs) 0 plans ≡ plans_left r n (plans_after (take n rs) 0 plans)
 after_more rs n r plans l is =
     let one : n + 1 ≡ suc n = omega arith in
     let next : take (n + 1) rs ≡ take n rs ++ r ∷ [] = rw one (take-suc rs n r l ∙ ap (λ (x : Role). take n rs ++ x ∷ []) (sym is)) in
     let long : 0 + length (take n rs) ≡ n = let all = length-take-le n rs (omega (arith, l)) in omega (arith, all) in
-    ap (λ (xs : List Role). plans_after xs 0 plans) next ∙ after_push (take n rs) r 0 plans ∙ ap (λ (k : ℕ). plans_left r k (plans_after (take n rs) 0 plans)) long
+    ap (λ (xs : List Role). plans_after xs 0 plans) next ∙ after_push (take n rs) r 0 plans
+    ∙ ap (λ (k : ℕ). plans_left r k (plans_after (take n rs) 0 plans)) long

@@ -28,7 +28,8 @@ use Rattle.a429_explain.specs.Walk.{AreAllowedUpTo, FitsAt, FitsSight, IsRefusab
 use Rattle.a429_explain.proofs.AttemptsFacts.{IsOfBlock}
 
 -- what is recorded in entry n
-pub item_at : (es : List Entry) (n : ℕ) (e : Entry) (i : Seen) → n < length es → e ≡ get_or es n e → i ≡ seen_of e → slice_get (items_of es) n ≡ Some i
+pub item_at : (es : List Entry) (n : ℕ) (e : Entry) (i : Seen)
+    → n < length es → e ≡ get_or es n e → i ≡ seen_of e → slice_get (items_of es) n ≡ Some i
 item_at es n e i l is same = by es n l ∙ ap (λ (x : Seen). Some x) (ap seen_of (sym is) ∙ sym same)
   where
     by : (es : List Entry) (n : ℕ) → n < length es → slice_get (items_of es) n ≡ Some (seen_of (get_or es n e))
@@ -37,7 +38,8 @@ item_at es n e i l is same = by es n l ∙ ap (λ (x : Seen). Some x) (ap seen_o
     by (x ∷ es) (suc n) l = by es n (omega arith)
 
 -- what an observer has seen after one more word
-pub observed_more : (p : Contents) (items : List Seen) (n : ℕ) (i : Seen) (o : Observer) → slice_get items n ≡ Some i → observed p (take (suc n) items) o ≡ sees p i (observed p (take n items) o)
+pub observed_more : (p : Contents) (items : List Seen) (n : ℕ) (i : Seen) (o : Observer)
+    → slice_get items n ≡ Some i → observed p (take (suc n) items) o ≡ sees p i (observed p (take n items) o)
 observed_more p [] n i o at = absurd (cc at)
 observed_more p (x ∷ items) zero i o at = ap (λ (j : Seen). sees p j o) (cc at)
 observed_more p (x ∷ items) (suc n) i o at = observed_more p items n i (sees p x o) at
@@ -55,7 +57,8 @@ pub record IsAllowedAt (p : Contents) (items : List Seen) (n : ℕ) (o : Observe
   pub item : slice_get items n ≡ Some i
   pub allowed : Allows p o i
 
-pub walks_on : (p : Contents) (items : List Seen) (n : ℕ) (o t : Observer) (i : Seen) → Walks p items n o → IsAllowedAt p items n o i → t ≡ sees p i o → Walks p items (n + 1) t
+pub walks_on : (p : Contents) (items : List Seen) (n : ℕ) (o t : Observer) (i : Seen)
+    → Walks p items n o → IsAllowedAt p items n o i → t ≡ sees p i o → Walks p items (n + 1) t
 walks_on p items n o t i w a seen =
     let one : n + 1 ≡ suc n = omega arith in
     rw one (record {
@@ -64,20 +67,25 @@ walks_on p items n o t i w a seen =
     })
   where
     here : AllowsNext p (observed p (take n items) at_first) (slice_get items n)
-    here = subst (AllowsNext p (observed p (take n items) at_first)) (sym a.item) (subst (λ (q : Observer). Allows p q i) w.observer a.allowed)
+    here =
+        subst (AllowsNext p (observed p (take n items) at_first)) (sym a.item) (subst (λ (q : Observer). Allows p q i) w.observer a.allowed)
 
     upto : (k : ℕ) → (k < n) ⊎ (k ≡ n) → AllowsNext p (observed p (take k items) at_first) (slice_get items k)
     upto k (inl m) = w.allowed k m
     upto k (inr e) = subst (λ (j : ℕ). AllowsNext p (observed p (take j items) at_first) (slice_get items j)) (sym e) here
 
 -- at its end
-pub walked : (p : Contents) (items : List Seen) (n : ℕ) (o : Observer) → length items ≤ n → Walks p items n o → AreAllowedUpTo p items (length items)
+pub walked : (p : Contents) (items : List Seen) (n : ℕ) (o : Observer)
+    → length items ≤ n → Walks p items n o → AreAllowedUpTo p items (length items)
 walked p items n o long w = λ k l. w.allowed k (omega arith)
 
 -- the word at this place is not allowed
-pub is_refusal : (p : Contents) (items : List Seen) (n : ℕ) (o : Observer) (i : Seen) (s : Sight) (r : Reason) → (IsRefused p items n → BeginsARun p (take (suc n) items) → ⊥) → slice_get items n ≡ Some i → s ≡ sight_of p.codes i.bus i.word → FitsSight s r → (Allows p o i → ⊥) → Walks p items n o → IsRefusal p items n r
+pub is_refusal : (p : Contents) (items : List Seen) (n : ℕ) (o : Observer) (i : Seen) (s : Sight) (r : Reason)
+    → (IsRefused p items n → BeginsARun p (take (suc n) items) → ⊥) → slice_get items n ≡ Some i → s ≡ sight_of p.codes i.bus i.word
+    → FitsSight s r → (Allows p o i → ⊥) → Walks p items n o → IsRefusal p items n r
 is_refusal p items n o i s r law at said fits h w =
-    let refused : IsRefused p items n = λ a. h (subst (λ (q : Observer). Allows p q i) (sym w.observer) (subst (AllowsNext p (observed p (take n items) at_first)) at a)) in
+    let refused : IsRefused p items n =
+    λ a. h (subst (λ (q : Observer). Allows p q i) (sym w.observer) (subst (AllowsNext p (observed p (take n items) at_first)) at a)) in
     let one : n + 1 ≡ suc n = omega arith in
     record {
       first = record { before = w.allowed; refused = refused };
@@ -87,13 +95,16 @@ is_refusal p items n o i s r law at said fits h w =
     }
 
 -- it is neither free nor a request to send
-pub refusable : (p : Contents) → IsProfile p → (o : Observer) (i : Seen) (s : Sight) → s ≡ sight_of p.codes i.bus i.word → (Allows p o i → ⊥) → IsRefusable s
+pub refusable : (p : Contents)
+    → IsProfile p → (o : Observer) (i : Seen) (s : Sight) → s ≡ sight_of p.codes i.bus i.word → (Allows p o i → ⊥) → IsRefusable s
 refusable p is o i s e h = by s e
   where
     by : (s : Sight) → s ≡ sight_of p.codes i.bus i.word → IsRefusable s
     by sight.Free e = h ((allows_sight p o i sight.Free e).1 tt)
     by sight.NoForm e = tt
-    by (sight.Form (Rts n)) e = h ((allows_sight p o i (sight.Form (Rts n)) e).1 (subst (λ (b : Bus). AllowsForm o b (Some (Rts n))) (sym ((sees_of p is i.bus i.word p.codes (sight.Form (Rts n)) refl e).found (Rts n) refl).bus) tt))
+    by (sight.Form (Rts n)) e =
+        h ((allows_sight p o i (sight.Form (Rts n)) e).1 (subst (λ (b : Bus). AllowsForm o b (Some (Rts n)))
+        (sym ((sees_of p is i.bus i.word p.codes (sight.Form (Rts n)) refl e).found (Rts n) refl).bus) tt))
     by (sight.Form (Cts n)) e = tt
     by (sight.Form (Ack f l)) e = tt
     by (sight.Form (Nak b)) e = tt
@@ -112,7 +123,8 @@ pub free_none : (c : Codes) (b : Bus) (w : ℕ) → is_free c b w ≡ true → f
 free_none c b w e = rw e refl
 
 -- where each word is allowed, each that is not free has a form
-formed_from : (p : Contents) (items : List Seen) (o : Observer) → ((k : ℕ) → k < length items → AllowsNext p (observed p (take k items) o) (slice_get items k)) → HasNoForm p.codes items → ⊥
+formed_from : (p : Contents) (items : List Seen) (o : Observer)
+    → ((k : ℕ) → k < length items → AllowsNext p (observed p (take k items) o) (slice_get items k)) → HasNoForm p.codes items → ⊥
 formed_from p [] o h n = n
 formed_from p (i ∷ items) o h (inl e) = (allows_sight p o i sight.NoForm (sym e)).0 (h 0 (omega arith))
 formed_from p (i ∷ items) o h (inr n) = formed_from p items (sees p i o) (λ k l. h (suc k) (omega arith)) n
@@ -121,8 +133,12 @@ pub formed : (p : Contents) (items : List Seen) → AreAllowedUpTo p items (leng
 formed p items h = formed_from p items at_first h
 
 -- a word of a block can be doubted
-pub block_doubt : (c : Codes) (items : List Seen) (n : ℕ) (w : DecodedWord) → IsHeardAt c items n w → IsOfBlock w.form → IsDoubtAt c items n NotOneBlock
-block_doubt c items n w k b = subst (λ (o : Option Seen). IsDoubtOf (sight_at c o) NotOneBlock) (sym k.is) (by (is_free c k.item.bus k.item.word) (form_of c k.item.bus k.item.word) (free_none c k.item.bus k.item.word) (subst IsOfBlock (sym k.form_is) b))
+pub block_doubt : (c : Codes) (items : List Seen) (n : ℕ) (w : DecodedWord)
+    → IsHeardAt c items n w → IsOfBlock w.form → IsDoubtAt c items n NotOneBlock
+block_doubt c items n w k b =
+    subst (λ (o : Option Seen). IsDoubtOf (sight_at c o) NotOneBlock) (sym k.is)
+    (by (is_free c k.item.bus k.item.word) (form_of c k.item.bus k.item.word) (free_none c k.item.bus k.item.word)
+    (subst IsOfBlock (sym k.form_is) b))
   where
     by : (t : Bool) (o : Option Form) → (t ≡ true → o ≡ None) → IsOfBlock o → IsDoubtOf (cond t sight.Free (sight_in o)) NotOneBlock
     by true None h b = absurd b

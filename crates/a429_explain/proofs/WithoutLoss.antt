@@ -42,12 +42,15 @@ record HasRoom (w : ℕ) (bytes : List ℕ) : Type 0 where
 has_room : (w : ℕ) (bytes : List ℕ) → cut_fault w bytes ≡ None → HasRoom w bytes
 has_room w bytes e = by (length bytes == 0) (nat_lt (255 * room w) (length bytes)) refl refl e
   where
-    by : (a b : Bool) → (length bytes == 0) ≡ a → nat_lt (255 * room w) (length bytes) ≡ b → cond a (Some cut.Empty) (cond b (Some cut.TooLong) None) ≡ None → HasRoom w bytes
+    by : (a b : Bool) → (length bytes == 0) ≡ a → nat_lt (255 * room w) (length bytes) ≡ b
+        → cond a (Some cut.Empty) (cond b (Some cut.TooLong) None) ≡ None → HasRoom w bytes
     by true b ea eb e = absurd (cc e)
     by false true ea eb e = absurd (cc e)
-    by false false ea eb e = let some = eqb-false (length bytes) 0 ea in record { some = omega (arith, some); most = ltb-false (255 * room w) (length bytes) eb }
+    by false false ea eb e =
+        let some = eqb-false (length bytes) 0 ea in record { some = omega (arith, some); most = ltb-false (255 * room w) (length bytes) eb }
 
-each_cut : (p : Contents) → IsProfile p → (w k : ℕ) (files : List (List ℕ)) → 3 ≤ w → w ≤ 255 → AllByRecursion (All (λ b. b < 256)) files → first_refused w k files ≡ None → EachCut p w files
+each_cut : (p : Contents) → IsProfile p → (w k : ℕ) (files : List (List ℕ)) → 3 ≤ w → w ≤ 255 → AllByRecursion (All (λ b. b < 256)) files
+    → first_refused w k files ≡ None → EachCut p w files
 each_cut p is w k [] least most h e = tt
 each_cut p is w k (bytes ∷ files) least most h e =
     let parts = kept k (cut_fault w bytes) (first_refused w (k + 1) files) e in
@@ -58,12 +61,19 @@ abbrev pub its_units : (p : Contents) (items : List Seen) → IsWithoutLoss p it
 its_units p items h = units_of_files p h.crossing.max_words h.crossing.files
 
 -- they may be loaded one after the other
-units_fit : (p : Contents) → IsProfile p → (items : List Seen) (h : IsWithoutLoss p items) (first : ℕ) → AllFit p (first_number p.codes first) (its_units p items h)
-units_fit p is items h first = all_fit p h.crossing.max_words h.crossing.files (each_cut p is h.crossing.max_words 0 h.crossing.files h.can.least h.can.most h.can.bytes h.can.cut) first
+units_fit : (p : Contents) → IsProfile p → (items : List Seen) (h : IsWithoutLoss p items) (first : ℕ)
+    → AllFit p (first_number p.codes first) (its_units p items h)
+units_fit p is items h first =
+    all_fit p h.crossing.max_words h.crossing.files
+    (each_cut p is h.crossing.max_words 0 h.crossing.files h.can.least h.can.most h.can.bytes h.can.cut) first
 
 -- they are those that are found
-pub units_found : (p : Contents) → IsProfile p → (items : List Seen) (h : IsWithoutLoss p items) (first : ℕ) → first ≡ first_file_of (forms_of p.codes items) → HaveCrossed (decoded p items) first (its_units p items h)
-units_found p is items h first e = rw e (record { fit = units_fit p is items h (first_file_of (forms_of p.codes items)); words = clean_from_first p is h.crossing.first (its_units p items h) items h.can.byte (units_fit p is items h h.crossing.first) h.words })
+pub units_found : (p : Contents) → IsProfile p → (items : List Seen) (h : IsWithoutLoss p items) (first : ℕ)
+    → first ≡ first_file_of (forms_of p.codes items) → HaveCrossed (decoded p items) first (its_units p items h)
+units_found p is items h first e = rw e (record {
+  fit = units_fit p is items h (first_file_of (forms_of p.codes items));
+  words = clean_from_first p is h.crossing.first (its_units p items h) items h.can.byte (units_fit p is items h h.crossing.first) h.words;
+})
 
 -- a run's trace begins with any number of its words
 pub begins : (p : Contents) → IsProfile p → (items : List Seen) (n : ℕ) → IsWithoutLoss p items → BeginsARun p (take n items)
@@ -101,15 +111,31 @@ words_kept c [] h = tt
 words_kept c (w ∷ ws) h = (word_kept c w (form_of c bus.A w) refl h.0, words_kept c ws h.1)
 
 block_kept : (p : Contents) (place : UnitNumber) (u : LduValue) → HasForms p place u → AreKept p.codes (clean_block p.codes place u)
-block_kept p place u s =
-    (formed_free p.codes bus.A _ _ s.request, (formed_free p.codes bus.B _ _ s.clear, kept_append p.codes (map on_a (block_of p.codes u place.file place.ldu)) _ (words_kept p.codes (block_of p.codes u place.file place.ldu) (block_has_forms p place u s)) (formed_free p.codes bus.B _ _ s.settled, tt)))
+block_kept p place u s = (
+  formed_free p.codes bus.A _ _ s.request,
+  (
+    formed_free p.codes bus.B _ _ s.clear,
+    kept_append p.codes (map on_a (block_of p.codes u place.file place.ldu)) _
+        (words_kept p.codes (block_of p.codes u place.file place.ldu) (block_has_forms p place u s))
+        (formed_free p.codes bus.B _ _ s.settled, tt),
+  ),
+)
 
-clean_kept : (p : Contents) → IsProfile p → (us : List LduValue) (place : UnitNumber) → place.file ≤ 255 → AllFit p place us → AreKept p.codes (clean_blocks p.codes place us)
+clean_kept : (p : Contents) → IsProfile p → (us : List LduValue) (place : UnitNumber) → place.file ≤ 255 → AllFit p place us
+    → AreKept p.codes (clean_blocks p.codes place us)
 clean_kept p is [] place f h = tt
-clean_kept p is (u ∷ us) place f h = kept_append p.codes (clean_block p.codes place u) _ (block_kept p place u (unit_has_forms p is place u f h.1 h.0)) (clean_kept p is us (number_after p.codes place u) (next_byte p.codes place _ f) h.2)
+clean_kept p is (u ∷ us) place f h =
+    kept_append p.codes (clean_block p.codes place u) _ (block_kept p place u (unit_has_forms p is place u f h.1 h.0))
+    (clean_kept p is us (number_after p.codes place u) (next_byte p.codes place _ f) h.2)
 
-pub clean_without_loss : (p : Contents) (x : Crossing) → IsProfile p → CanCross x → IsWithoutLoss p (clean_words p x.max_words x.first x.files)
+pub clean_without_loss : (p : Contents) (x : Crossing)
+    → IsProfile p → CanCross x → IsWithoutLoss p (clean_words p x.max_words x.first x.files)
 clean_without_loss p x is can =
     let units = units_of_files p x.max_words x.files in
     let fit = all_fit p x.max_words x.files (each_cut p is x.max_words 0 x.files can.least can.most can.bytes can.cut) x.first in
-    record { crossing = x; can = can; words = thin_kept p.codes (clean_words p x.max_words x.first x.files) (clean_kept p is units (first_number p.codes x.first) can.byte fit) }
+    record {
+      crossing = x;
+      can = can;
+      words =
+          thin_kept p.codes (clean_words p x.max_words x.first x.files) (clean_kept p is units (first_number p.codes x.first) can.byte fit);
+    }

@@ -8,7 +8,7 @@ use Rattle.a429_link.specs.declared.number.UnitNumber.{UnitNumber}
 use Rattle.a429_explain.specs.declared.stop.Stop.{Stop}
 use Rattle.a429_explain.specs.declared.stop.Stop.TheVariants.{Unexplained, OutOfMemory}
 use Rattle.a429_explain.specs.declared.verdict.Doubt.{Doubt}
-use Rattle.a429_explain.specs.declared.verdict.Doubt.TheVariants.{NeverWhole, NotOneBlock, NotReplayed}
+use Rattle.a429_explain.specs.declared.verdict.Doubt.TheVariants.{NeverWhole, NotOneBlock, NotReplayed, OutOfSteps}
 use Rattle.a429_explain.specs.Filled.{group_unit}
 use Rattle.a429_explain.specs.Decoded.{HeardValue}
 use Rattle.a429_explain.specs.Matching.{AreMatched}
@@ -38,6 +38,7 @@ abbrev pub IsWhyNoUnit : HeardValue → Request → Stop → Type 0
 IsWhyNoUnit h r (Unexplained i NotOneBlock) = other_for h r ≡ Some i
 IsWhyNoUnit h r (Unexplained i NeverWhole) = (i ≡ r.group.from) × (other_for h r ≡ None) × (unit_for h r ≡ None)
 IsWhyNoUnit h r (Unexplained i NotReplayed) = ⊥
+IsWhyNoUnit h r (Unexplained i OutOfSteps) = ⊥
 IsWhyNoUnit h r OutOfMemory = other_for h r ≡ None
 
 -- ---- all three

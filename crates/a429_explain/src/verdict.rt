@@ -17,7 +17,7 @@ pub enum Verdict {
         entry: usize,
         reason: Reason,
     },
-    /// No certificate was found. The entry, counted from 0, is the first that is doubted.
+    /// No certificate was found. The entry, counted from 0, is the first that is doubted, or at which a search ended.
     Unexplained {
         entry: usize,
         doubt: Doubt,
@@ -47,7 +47,7 @@ pub enum Reason {
 }
 
 /// Why a recording is neither explained nor impossible: what the rule of `check` was missing (docs/CHECKER.md, Attempts
-/// and groups).
+/// and groups), or where the search of `decide` ended (docs/CHECKER.md, How long it searches).
 #[derive(Clone, Copy, Debug)]
 pub enum Doubt {
     /// The link data unit of this request was never recorded whole, although an end word was; or no filler words make
@@ -58,4 +58,6 @@ pub enum Doubt {
     NotOneBlock,
     /// The guessed steps cannot be made from this entry on.
     NotReplayed,
+    /// The search was cut short by one of its limits at the attempt whose request this entry is. `check` leaves this doubt out.
+    OutOfSteps,
 }

@@ -17,7 +17,8 @@ word_limit bits h =
 
 -- ---- a text that is a number, and texts that are none
 
-pub number_in-is : (radix bits : ℕ) (text : List ℕ) (n : ℕ) → 1 ≤ length text → AllDigits radix text → n ≡ digits_value radix text → n < 2 ^ bits → Some n ≡ number_in radix bits text
+pub number_in-is : (radix bits : ℕ) (text : List ℕ) (n : ℕ)
+    → 1 ≤ length text → AllDigits radix text → n ≡ digits_value radix text → n < 2 ^ bits → Some n ≡ number_in radix bits text
 number_in-is radix bits text n some all e small =
     let first : nat_le 1 (length text) ≡ true = grind (arith, nat_tests) in
     let below : nat_lt (digits_value radix text) (2 ^ bits) ≡ true = grind (arith, nat_tests) in
@@ -38,8 +39,10 @@ number_in-above radix bits text h =
 pub limit_is : (bits : ℕ) → bits ≤ 32 → 1 * 2 ^ bits % 18446744073709551616 ≡ 2 ^ bits
 limit_is bits h = let most = word_limit bits h in omega arith
 
-pub one_more : (radix : ℕ) (text : List ℕ) (i n d : ℕ) → i < length text → n ≡ digits_value radix (take i text) → d ≡ digit_value (get_or text i 0) → n * radix + d ≡ digits_value radix (take (i + 1) text)
+pub one_more : (radix : ℕ) (text : List ℕ) (i n d : ℕ) → i < length text → n ≡ digits_value radix (take i text)
+    → d ≡ digit_value (get_or text i 0) → n * radix + d ≡ digits_value radix (take (i + 1) text)
 one_more radix text i n d h e f = rw (e, f) (sym (digits_value_more radix text i h))
 
-pub too_large : (radix bits : ℕ) (text : List ℕ) (i : ℕ) → 1 ≤ radix → 2 ^ bits ≤ digits_value radix (take i text) → None ≡ number_in radix bits text
+pub too_large : (radix bits : ℕ) (text : List ℕ) (i : ℕ)
+    → 1 ≤ radix → 2 ^ bits ≤ digits_value radix (take i text) → None ≡ number_in radix bits text
 too_large radix bits text i some h = number_in-above radix bits text (omega (arith, digits_value-take-le radix text i some))

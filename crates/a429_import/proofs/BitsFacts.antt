@@ -19,7 +19,8 @@ sum_below-times (suc k) c f = let e = sum_below-times k c f in omega arith
 -- a number of k bits is the sum of these
 sum_of_bits : (k n : ℕ) → n < 2 ^ k → sum_below k (λ j. bit_at n j * 2 ^ j) ≡ n
 sum_of_bits k n h =
-    let places : sum_below k (λ j. bit_at n j * 2 ^ j) ≡ number_at n 1 k = sum_below-same k (λ j. bit_at n j * 2 ^ j) (λ j. bit_at n (1 + j - 1) * 2 ^ j) (λ j _. ap (λ i. bit_at n i * 2 ^ j) (omega arith)) in
+    let places : sum_below k (λ j. bit_at n j * 2 ^ j) ≡ number_at n 1 k =
+    sum_below-same k (λ j. bit_at n j * 2 ^ j) (λ j. bit_at n (1 + j - 1) * 2 ^ j) (λ j _. ap (λ i. bit_at n i * 2 ^ j) (omega arith)) in
     let whole : n / 2 ^ 0 % 2 ^ k ≡ n % 2 ^ k = ap (λ m. m % 2 ^ k) (omega arith) in
     places ∙ number_at-is n 0 k ∙ whole ∙ mod-eq_of_lt h
 
@@ -37,7 +38,8 @@ moved_up k low n first h =
 reverse-more : (k n a : ℕ) → reverse_bits_onto (suc k) n a ≡ 2 * reverse_bits_onto k n a + bit_at n k
 unfolding reverse_bits_onto
 reverse-more zero n a = omega arith
-reverse-more (suc k) n a = reverse-more k (n / 2) (a * 2 + n % 2) ∙ ap (λ b. 2 * reverse_bits_onto k (n / 2) (a * 2 + n % 2) + b) (sym (bit_at-suc n k))
+reverse-more (suc k) n a =
+    reverse-more k (n / 2) (a * 2 + n % 2) ∙ ap (λ b. 2 * reverse_bits_onto k (n / 2) (a * 2 + n % 2) + b) (sym (bit_at-suc n k))
 
 -- the reversed bits are the sum
 sum_reversed : (k n : ℕ) → sum_below k (λ j. bit_at n j * 2 ^ (k - 1 - j)) ≡ reverse_bits_onto k n 0
@@ -56,7 +58,8 @@ sum_reversed (suc k) n =
 
 reversed_up : (k low n : ℕ) → 1 ≤ low → sum_below k (λ j. bit_at n j * 2 ^ (low + k - 1 - j - 1)) ≡ reverse_bits_onto k n 0 * 2 ^ (low - 1)
 reversed_up k low n first =
-    let term : (j : ℕ) → j < k → bit_at n j * 2 ^ (low + k - 1 - j - 1) ≡ bit_at n j * 2 ^ (k - 1 - j) * 2 ^ (low - 1) = λ (j : ℕ) (h : j < k).
+    let term : (j : ℕ)
+    → j < k → bit_at n j * 2 ^ (low + k - 1 - j - 1) ≡ bit_at n j * 2 ^ (k - 1 - j) * 2 ^ (low - 1) = λ (j : ℕ) (h : j < k).
     let e : low + k - 1 - j - 1 ≡ k - 1 - j + (low - 1) = omega arith in
     rw (e, pow-add 2 (k - 1 - j) (low - 1)) (omega arith)
     in
@@ -75,7 +78,8 @@ reversed_first (suc m) k n =
     let place : suc m ≡ 1 + m = omega arith in
     let b = bit_at-lt n (m + k) in
     let half : (2 * r + bit_at n (m + k)) / 2 ≡ r = omega arith in
-    let parts : (2 * r + bit_at n (m + k)) / 2 ^ suc m ≡ (2 * r + bit_at n (m + k)) / 2 / 2 ^ m = rw place (sym (shr-shr (2 * r + bit_at n (m + k)) 1 m)) in
+    let parts : (2 * r + bit_at n (m + k)) / 2 ^ suc m ≡ (2 * r + bit_at n (m + k)) / 2 / 2 ^ m =
+    rw place (sym (shr-shr (2 * r + bit_at n (m + k)) 1 m)) in
     rw (more, reverse-more (m + k) n 0, parts, half) (reversed_first m k n)
 
 reversed_below : (k n a : ℕ) → reverse_bits_onto k n a < suc a * 2 ^ k
@@ -99,14 +103,17 @@ below_word k low n first last h =
     let most : 2 ^ (k + (low - 1)) ≤ 2 ^ 32 = pow-le-pow_right (omega arith) few in
     omega arith
 
-pub placed-straight : (b : Bits) (n : ℕ) → b.reversed ≡ false → AreInWord b → n < 2 ^ b.count → n * 2 ^ (b.low - 1) % 4294967296 ≡ placed b n
+pub placed-straight : (b : Bits) (n : ℕ)
+    → b.reversed ≡ false → AreInWord b → n < 2 ^ b.count → n * 2 ^ (b.low - 1) % 4294967296 ≡ placed b n
 placed-straight b n straight are h =
     rw straight (mod-eq_of_lt (below_word b.count b.low n are.first are.last h) ∙ sym (moved_up b.count b.low n are.first h))
 
-pub placed-reversed : (b : Bits) (n : ℕ) → b.reversed ≡ true → AreInWord b → reverse_bits_onto 32 n 0 / 2 ^ (32 - b.count) * 2 ^ (b.low - 1) % 4294967296 ≡ placed b n
+pub placed-reversed : (b : Bits) (n : ℕ)
+    → b.reversed ≡ true → AreInWord b → reverse_bits_onto 32 n 0 / 2 ^ (32 - b.count) * 2 ^ (b.low - 1) % 4294967296 ≡ placed b n
 placed-reversed b n reversed are =
     let all : 32 ≡ 32 - b.count + b.count = omega (arith, are.last, are.first) in
-    let first : reverse_bits_onto 32 n 0 / 2 ^ (32 - b.count) ≡ reverse_bits_onto b.count n 0 = ap (λ i. reverse_bits_onto i n 0 / 2 ^ (32 - b.count)) all ∙ reversed_first (32 - b.count) b.count n in
+    let first : reverse_bits_onto 32 n 0 / 2 ^ (32 - b.count) ≡ reverse_bits_onto b.count n 0 =
+    ap (λ i. reverse_bits_onto i n 0 / 2 ^ (32 - b.count)) all ∙ reversed_first (32 - b.count) b.count n in
     let small : reverse_bits_onto b.count n 0 < 2 ^ b.count = omega (arith, reversed_below b.count n 0) in
     rw (first, reversed) (mod-eq_of_lt (below_word b.count b.low _ are.first are.last small) ∙ sym (reversed_up b.count b.low n are.first))
 

@@ -52,15 +52,19 @@ if_read : (b : Bool) (r : Reading) → (b ≡ true → r.micros < 60000000) → 
 if_read true r h = h refl
 if_read false r h = tt
 
-pub parts_below : (whole part : List ℕ) → is_some (sixtieth whole) ≡ true → IfSome (time_with_part unit.Second whole part) (λ r. r.micros < 60000000)
+pub parts_below : (whole part : List ℕ)
+    → is_some (sixtieth whole) ≡ true → IfSome (time_with_part unit.Second whole part) (λ r. r.micros < 60000000)
 parts_below whole part h =
     if_read (are_time_digits whole && are_time_digits part) (counted (10 ^ 9) whole part)
-    (λ e. seconds_below whole part (time_digits part (and_parts (are_time_digits whole) (are_time_digits part) e).1).digits (some_second whole h))
+    (λ e.
+    seconds_below whole part (time_digits part (and_parts (are_time_digits whole) (are_time_digits part) e).1).digits (some_second whole h))
 
 -- ---- the hour, the minute and the second
 
-pub time_read : (day : ℕ) (half : Option Half) (point i j : ℕ) (text rest last : List ℕ) (h m : Option ℕ) (s r : Option Reading) → Some i ≡ position (λ b. b == 58) text
-    → rest ≡ drop (i + 1) text → Some j ≡ position (λ b. b == 58) rest → last ≡ drop (j + 1) rest → h ≡ hour_in half (take i text) → m ≡ sixtieth (take j rest)
+pub time_read : (day : ℕ) (half : Option Half) (point i j : ℕ) (text rest last : List ℕ) (h m : Option ℕ) (s r : Option Reading)
+    → Some i ≡ position (λ b. b == 58) text
+    → rest ≡ drop (i + 1) text → Some j ≡ position (λ b. b == 58) rest → last ≡ drop (j + 1) rest → h ≡ hour_in half (take i text)
+    → m ≡ sixtieth (take j rest)
     → s ≡ seconds_in point last → r ≡ time_at day h m s → r ≡ time_on day half point text
 time_read day half point i j text rest last h m s r first after second over hour minute seconds is =
     let next : Some j ≡ position (λ b. b == 58) (drop (i + 1) text) = rw (← after) second in
@@ -73,12 +77,14 @@ first_of_1970 = day_count-early (pos 1970) 11969 1 1 refl (omega arith) (omega a
 
 year_after : (y : ℕ) → 1970 ≤ y → 4371953 ≤ day_count (pos y) 1 1
 year_after y h = elim (cases_lt 1970 y) [
-  | inl lt ↦ omega (arith, first_of_1970, day_count-later_year (pos 1970) (pos y) (omega (arith, signed_arith)) (omega (arith, signed_arith)))
+  | inl lt ↦
+      omega (arith, first_of_1970, day_count-later_year (pos 1970) (pos y) (omega (arith, signed_arith)) (omega (arith, signed_arith)))
   | inr le ↦ let e : y ≡ 1970 = omega arith in rw e (omega (arith, first_of_1970))
 ]
 
 -- counted from the calendar's first day, and from the first of 1970
-days_since : (y m d r : ℕ) → 1970 ≤ y → 1 ≤ d → days_from_civil (pos y) m d +ℤ pos 4371587 ≡ pos r → (4371587 ≤ r) × (r - 4371587 ≡ days_before y m d)
+days_since : (y m d r : ℕ)
+    → 1970 ≤ y → 1 ≤ d → days_from_civil (pos y) m d +ℤ pos 4371587 ≡ pos r → (4371587 ≤ r) × (r - 4371587 ≡ days_before y m d)
 days_since y m d r h k e =
     let count = days_from_civil-day_count (pos y) m d in
     let start = year_after y h in
@@ -87,9 +93,11 @@ days_since y m d r h k e =
     let some : d ≤ day_of_year (pos y) m d = omega arith in
     (omega (arith, signed_arith, count, e, start, place, first, some), omega (arith, signed_arith, count, e, start, place, first, some))
 
-pub days_are : (y m d r : ℕ) → is_day y m d ≡ true → days_from_civil (to_z w16 y) m d +ℤ pos 4371587 ≡ pos r → (4371587 ≤ r) × (r - 4371587 ≡ days_before y m d)
+pub days_are : (y m d r : ℕ)
+    → is_day y m d ≡ true → days_from_civil (to_z w16 y) m d +ℤ pos 4371587 ≡ pos r → (4371587 ≤ r) × (r - 4371587 ≡ days_before y m d)
 days_are y m d r h e =
-    let five = and_parts (nat_le 1970 y && nat_le y 9999 && nat_le 1 m && nat_le m 12 && nat_le 1 d) (nat_le d (days_in_month (pos y) m)) h in
+    let five =
+    and_parts (nat_le 1970 y && nat_le y 9999 && nat_le 1 m && nat_le m 12 && nat_le 1 d) (nat_le d (days_in_month (pos y) m)) h in
     let four = and_parts (nat_le 1970 y && nat_le y 9999 && nat_le 1 m && nat_le m 12) (nat_le 1 d) five.0 in
     let three = and_parts (nat_le 1970 y && nat_le y 9999 && nat_le 1 m) (nat_le m 12) four.0 in
     let two = and_parts (nat_le 1970 y && nat_le y 9999) (nat_le 1 m) three.0 in

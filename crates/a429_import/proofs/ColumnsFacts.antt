@@ -11,7 +11,8 @@ pub none_before : (found : Option (List ℕ)) → with_places [] found ≡ found
 none_before None = refl
 none_before (Some places) = refl
 
-pub one_before : (before : List ℕ) (place : ℕ) (found : Option (List ℕ)) → with_places (before ++ place ∷ []) found ≡ with_places before (with_place (Some place) found)
+pub one_before : (before : List ℕ) (place : ℕ) (found : Option (List ℕ))
+    → with_places (before ++ place ∷ []) found ≡ with_places before (with_place (Some place) found)
 one_before before place None = refl
 one_before before place (Some places) = ap (λ (ps : List ℕ). Some ps) (append_assoc before (place ∷ []) places)
 

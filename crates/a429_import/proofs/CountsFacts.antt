@@ -23,18 +23,21 @@ filter_short p (x ∷ xs) = elim (cases_Bool (p x)) [
 one_more : (new old n : ℕ) → new ≡ min (old + 1) (2 ^ 64 - 1) → old ≡ n → n + 1 < 2 ^ 64 → new ≡ n + 1
 one_more new old n e is few = grind arith
 
-pub counted_yes : (p : Lot → Bool) (lots : List Lot) (l : Lot) (new old : ℕ) → p l ≡ true → new ≡ min (old + 1) (2 ^ 64 - 1) → length lots + 1 < 2 ^ 64 → old ≡ length (filter p lots) → new ≡ length (filter p (lots ++ l ∷ []))
+pub counted_yes : (p : Lot → Bool) (lots : List Lot) (l : Lot) (new old : ℕ) → p l ≡ true → new ≡ min (old + 1) (2 ^ 64 - 1)
+    → length lots + 1 < 2 ^ 64 → old ≡ length (filter p lots) → new ≡ length (filter p (lots ++ l ∷ []))
 counted_yes p lots l new old e is few h =
     let short = filter_short p lots in
     let all : filter p (lots ++ l ∷ []) ≡ filter p lots ++ l ∷ [] = filter-append p lots (l ∷ []) ∙ rw e refl in
-    one_more new old (length (filter p lots)) is h (omega (arith, short, few)) ∙ sym (ap length all ∙ length-append (filter p lots) (l ∷ []))
+    one_more new old (length (filter p lots)) is h (omega (arith, short, few))
+    ∙ sym (ap length all ∙ length-append (filter p lots) (l ∷ []))
 
 -- the most of some lifts, and one more
 most-last : (lots : List Lot) (l : Lot) → most_lift_of (lots ++ l ∷ []) ≡ max (most_lift_of lots) (lift_of l)
 most-last [] l = omega arith
 most-last (x ∷ lots) l = let more = most-last lots l in omega (arith, more)
 
-pub most_lift-more : (lots : List Lot) (l : Lot) (most lift new : ℕ) → lift ≡ lift_of l → most ≡ most_lift_of lots → new ≡ max most lift → new ≡ most_lift_of (lots ++ l ∷ [])
+pub most_lift-more : (lots : List Lot) (l : Lot) (most lift new : ℕ)
+    → lift ≡ lift_of l → most ≡ most_lift_of lots → new ≡ max most lift → new ≡ most_lift_of (lots ++ l ∷ [])
 most_lift-more lots l most lift new e m is = omega (arith, most-last lots l, e, m, is)
 
 -- ---- each line is counted once
@@ -42,7 +45,8 @@ most_lift-more lots l most lift new e m is = omega (arith, most-last lots l, e, 
 abbrev pub OncePerLine : List Lot → Type 0
 OncePerLine lots =
     length (filter is_entry lots) + length (filter is_skipped lots) + length (filter is_empty lots) + length (filter is_remark lots)
-    + length (filter is_heading lots) + length (filter is_passed_row lots) + length (filter is_of_passed_channel lots) + length (filter is_repeated lots) ≡ length lots
+    + length (filter is_heading lots) + length (filter is_passed_row lots) + length (filter is_of_passed_channel lots)
+    + length (filter is_repeated lots) ≡ length lots
 
 once : (lots : List Lot) → OncePerLine lots
 once [] = refl
@@ -57,7 +61,9 @@ once (lot.Written e is_cut v mend ∷ lots) = let h = once lots in omega (arith,
 
 pub add_up : (n : Counts) (lots : List Lot) → AreCounts n lots
     → n.entries + n.skipped + n.empty + n.comments + n.headings + n.passed_rows + n.of_passed_channels + n.repeats ≡ n.lines
-add_up n lots h = let all = once lots in rw (h.entries, h.skipped, h.empty, h.comments, h.headings, h.passed_rows, h.of_passed_channels, h.repeats, h.lines) all
+add_up n lots h =
+    let all = once lots in
+    rw (h.entries, h.skipped, h.empty, h.comments, h.headings, h.passed_rows, h.of_passed_channels, h.repeats, h.lines) all
 
 -- and each entry is on one line
 abbrev pub OnOne : List Lot → Type 0
@@ -88,7 +94,10 @@ on_one (lot.Repeated ∷ lots) = on_one lots
 on_one (lot.Written e is_cut v mend ∷ lots) =
     let both = with_bus e.bus (length (filter is_on_a lots)) (length (filter is_on_b lots)) (length (filter is_entry lots)) (on_one lots) in
     let more : length (filter is_entry lots) + 1 ≡ suc (length (filter is_entry lots)) = omega arith in
-    rw (one_if-is (is_line_a e.bus) (lot.Written e is_cut v mend) (filter is_on_a lots), one_if-is (is_line_b e.bus) (lot.Written e is_cut v mend) (filter is_on_b lots)) (both ∙ more)
+    rw (
+      one_if-is (is_line_a e.bus) (lot.Written e is_cut v mend) (filter is_on_a lots),
+      one_if-is (is_line_b e.bus) (lot.Written e is_cut v mend) (filter is_on_b lots),
+    ) (both ∙ more)
 
 pub lines_add_up : (n : Counts) (lots : List Lot) → AreCounts n lots → n.on_a + n.on_b ≡ n.entries
 lines_add_up n lots h = let all = on_one lots in rw (h.on_a, h.on_b, h.entries) all

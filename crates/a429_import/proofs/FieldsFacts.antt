@@ -31,20 +31,26 @@ last_stays is (x ∷ xs) b h =
 last_goes : (is : ℕ → Bool) (xs : List ℕ) (b : ℕ) → is b ≡ true → without_last is (xs ++ b ∷ []) ≡ without_last is xs
 last_goes is [] b h = rw h refl
 last_goes is (x ∷ xs) b h =
-    let same : list_all is ((x ∷ xs) ++ b ∷ []) ≡ list_all is (x ∷ xs) = list_all-append is (x ∷ xs) (b ∷ []) ∙ rw h (and-all (list_all is (x ∷ xs))) in
-    ap (λ a. if a then [] else x ∷ without_last is (xs ++ b ∷ [])) same ∙ ap (λ (l : List ℕ). if list_all is (x ∷ xs) then [] else x ∷ l) (last_goes is xs b h)
+    let same : list_all is ((x ∷ xs) ++ b ∷ []) ≡ list_all is (x ∷ xs) =
+    list_all-append is (x ∷ xs) (b ∷ []) ∙ rw h (and-all (list_all is (x ∷ xs))) in
+    ap (λ a. if a then [] else x ∷ without_last is (xs ++ b ∷ [])) same
+    ∙ ap (λ (l : List ℕ). if list_all is (x ∷ xs) then [] else x ∷ l) (last_goes is xs b h)
 
 -- the same of the bytes before a place
-pub end_stays : (is : ℕ → Bool) (xs : List ℕ) (end : ℕ) → 0 < end → end ≤ length xs → is (get_or xs (end - 1) 0) ≡ false → without_last is (take end xs) ≡ take end xs
+pub end_stays : (is : ℕ → Bool) (xs : List ℕ) (end : ℕ) → 0 < end → end ≤ length xs → is (get_or xs (end - 1) 0) ≡ false
+    → without_last is (take end xs) ≡ take end xs
 end_stays is xs end some inside h =
     let one : end - 1 + 1 ≡ end = omega arith in
-    let cut : take end xs ≡ take (end - 1) xs ++ get_or xs (end - 1) 0 ∷ [] = ap (λ n. take n xs) (sym one) ∙ take_more xs (end - 1) 0 (omega arith) in
+    let cut : take end xs ≡ take (end - 1) xs ++ get_or xs (end - 1) 0 ∷ [] =
+    ap (λ n. take n xs) (sym one) ∙ take_more xs (end - 1) 0 (omega arith) in
     rw cut (last_stays is (take (end - 1) xs) (get_or xs (end - 1) 0) h)
 
-pub end_goes : (is : ℕ → Bool) (xs : List ℕ) (end : ℕ) → 0 < end → end ≤ length xs → is (get_or xs (end - 1) 0) ≡ true → without_last is (take end xs) ≡ without_last is (take (end - 1) xs)
+pub end_goes : (is : ℕ → Bool) (xs : List ℕ) (end : ℕ) → 0 < end → end ≤ length xs → is (get_or xs (end - 1) 0) ≡ true
+    → without_last is (take end xs) ≡ without_last is (take (end - 1) xs)
 end_goes is xs end some inside h =
     let one : end - 1 + 1 ≡ end = omega arith in
-    let cut : take end xs ≡ take (end - 1) xs ++ get_or xs (end - 1) 0 ∷ [] = ap (λ n. take n xs) (sym one) ∙ take_more xs (end - 1) 0 (omega arith) in
+    let cut : take end xs ≡ take (end - 1) xs ++ get_or xs (end - 1) 0 ∷ [] =
+    ap (λ n. take n xs) (sym one) ∙ take_more xs (end - 1) 0 (omega arith) in
     rw cut (last_goes is (take (end - 1) xs) (get_or xs (end - 1) 0) h)
 
 -- ---- words
@@ -62,18 +68,22 @@ words-from (x ∷ xs) = from_first x xs (is_blank x) refl (words-from xs)
 abbrev pub BeginsWithWord : List ℕ → Type 0
 BeginsWithWord xs = words xs ≡ take (word_length xs) xs ∷ words (drop (word_length xs) xs)
 
-by_second : (x c : ℕ) (cs : List ℕ) (b : Bool) → is_blank x ≡ false → is_blank c ≡ b → (is_blank c ≡ false → BeginsWithWord (c ∷ cs)) → BeginsWithWord (x ∷ c ∷ cs)
+by_second : (x c : ℕ) (cs : List ℕ) (b : Bool)
+    → is_blank x ≡ false → is_blank c ≡ b → (is_blank c ≡ false → BeginsWithWord (c ∷ cs)) → BeginsWithWord (x ∷ c ∷ cs)
 by_second x c cs b e f more =
     let all = x ∷ c ∷ cs in
-    let first : words all ≡ word_before x (c ∷ cs) (words (c ∷ cs)) = ap (λ d. if d then words (c ∷ cs) else word_before x (c ∷ cs) (words (c ∷ cs))) e in
+    let first : words all ≡ word_before x (c ∷ cs) (words (c ∷ cs)) =
+    ap (λ d. if d then words (c ∷ cs) else word_before x (c ∷ cs) (words (c ∷ cs))) e in
     let long : word_length all ≡ suc (word_length (c ∷ cs)) = ap (λ d. if d then 0 else suc (word_length (c ∷ cs))) e in
     first ∙ goes_on x c cs b f more ∙ sym (ap (λ n. take n all ∷ words (drop n all)) long)
   where
     goes_on : (x c : ℕ) (cs : List ℕ) (b : Bool) → is_blank c ≡ b → (is_blank c ≡ false → BeginsWithWord (c ∷ cs))
-        → word_before x (c ∷ cs) (words (c ∷ cs)) ≡ (x ∷ take (word_length (c ∷ cs)) (c ∷ cs)) ∷ words (drop (word_length (c ∷ cs)) (c ∷ cs))
+        → word_before x (c ∷ cs) (words (c ∷ cs)) ≡ (x ∷ take (word_length (c ∷ cs)) (c ∷ cs))
+        ∷ words (drop (word_length (c ∷ cs)) (c ∷ cs))
     goes_on x c cs true f more =
         let none : word_length (c ∷ cs) ≡ 0 = ap (λ d. if d then 0 else suc (word_length cs)) f in
-        ap (λ d. if d then (x ∷ []) ∷ words (c ∷ cs) else before_first x (words (c ∷ cs))) f ∙ sym (ap (λ n. (x ∷ take n (c ∷ cs)) ∷ words (drop n (c ∷ cs))) none)
+        ap (λ d. if d then (x ∷ []) ∷ words (c ∷ cs) else before_first x (words (c ∷ cs))) f
+        ∙ sym (ap (λ n. (x ∷ take n (c ∷ cs)) ∷ words (drop n (c ∷ cs))) none)
     goes_on x c cs false f more =
         ap (λ d. if d then (x ∷ []) ∷ words (c ∷ cs) else before_first x (words (c ∷ cs))) f ∙ ap (before_first x) (more f)
 
@@ -82,7 +92,8 @@ words-first x [] e = rw e refl
 words-first x (c ∷ cs) e = by_second x c cs (is_blank c) e refl (words-first c cs)
 
 -- a first byte is no blank, where all before it were taken away
-none_by : (x : ℕ) (xs : List ℕ) (y : ℕ) (ys : List ℕ) (b : Bool) → is_blank x ≡ b → (without_first is_blank xs ≡ y ∷ ys → is_blank y ≡ false)
+none_by : (x : ℕ) (xs : List ℕ) (y : ℕ) (ys : List ℕ) (b : Bool)
+    → is_blank x ≡ b → (without_first is_blank xs ≡ y ∷ ys → is_blank y ≡ false)
     → (if b then without_first is_blank xs else x ∷ xs) ≡ y ∷ ys → is_blank y ≡ false
 none_by x xs y ys true f more h = more h
 none_by x xs y ys false f more h = let same : x ≡ y = cc h in ap is_blank (sym same) ∙ f
@@ -92,7 +103,8 @@ first_is_none [] y ys e = absurd (cc e)
 first_is_none (x ∷ xs) y ys e = none_by x xs y ys (is_blank x) refl (first_is_none xs y ys) e
 
 -- the first word of a text, after the blanks before it
-pub word_here : (text rest : List ℕ) → rest ≡ without_first is_blank text → 0 < length rest → words text ≡ take (word_length rest) rest ∷ words (drop (word_length rest) rest)
+pub word_here : (text rest : List ℕ) → rest ≡ without_first is_blank text → 0 < length rest
+    → words text ≡ take (word_length rest) rest ∷ words (drop (word_length rest) rest)
 word_here text [] e some = absurd (omega arith)
 word_here text (y ∷ ys) e some = sym (words-from text) ∙ ap words (sym e) ∙ words-first y ys (first_is_none text y ys (sym e))
 
@@ -123,7 +135,8 @@ bytes_before-none : (c : ℕ) (qs : List (List ℕ)) → bytes_before [] (before
 bytes_before-none c [] = refl
 bytes_before-none c (q ∷ qs) = refl
 
-some_by : (c : ℕ) (ps : List (List ℕ)) (e : Bool) → bytes_before [] (if e then [] ∷ ps else before_first c ps) ≡ (if e then [] ∷ ps else before_first c ps)
+some_by : (c : ℕ) (ps : List (List ℕ)) (e : Bool)
+    → bytes_before [] (if e then [] ∷ ps else before_first c ps) ≡ (if e then [] ∷ ps else before_first c ps)
 some_by c ps true = refl
 some_by c ps false = bytes_before-none c ps
 
@@ -143,11 +156,14 @@ ReadsPieces b quotes starts fields p text =
 ended : (b : ℕ) (fields : List (List ℕ)) (p cs : List ℕ) → (fields ++ p ∷ []) ++ bytes_before [] (pieces b cs) ≡ fields ++ p ∷ pieces b cs
 ended b fields p cs = ap (λ (ps : List (List ℕ)). (fields ++ p ∷ []) ++ ps) (some_pieces b cs) ∙ append_assoc fields (p ∷ []) (pieces b cs)
 
-on_byte : (b : ℕ) (quotes starts : Bool) (fields : List (List ℕ)) (p : List ℕ) (c : ℕ) (cs : List ℕ) (e : Bool) → (c == b) ≡ e → IsPlainByte quotes c
-    → ((starts : Bool) (fields : List (List ℕ)) (p : List ℕ) → ReadsPieces b quotes starts fields p cs) → ReadsPieces b quotes starts fields p (c ∷ cs)
+on_byte : (b : ℕ) (quotes starts : Bool) (fields : List (List ℕ)) (p : List ℕ) (c : ℕ) (cs : List ℕ) (e : Bool)
+    → (c == b) ≡ e → IsPlainByte quotes c
+    → ((starts : Bool) (fields : List (List ℕ)) (p : List ℕ) → ReadsPieces b quotes starts fields p cs)
+    → ReadsPieces b quotes starts fields p (c ∷ cs)
 unfolding next_record
 on_byte b quotes true fields p c cs true e plain more =
-    rw (plain.0, e, append-nil p) (more true (fields ++ p ∷ []) [] ∙ ap (λ (l : List (List ℕ)). Some (l, st.StartRecord, [])) (ended b fields p cs))
+    rw (plain.0, e, append-nil p)
+    (more true (fields ++ p ∷ []) [] ∙ ap (λ (l : List (List ℕ)). Some (l, st.StartRecord, [])) (ended b fields p cs))
 on_byte b quotes true fields p c cs false e plain more =
     rw (plain.0, e, plain.1, bytes_before-one p c (pieces b cs)) (more false fields (p ++ c ∷ []))
 on_byte b quotes false fields p c cs true e plain more =
@@ -160,7 +176,8 @@ unfolding next_record
 at_last b quotes true fields p = rw (append-nil p) refl
 at_last b quotes false fields p = rw (append-nil p) refl
 
-reads_pieces : (b : ℕ) (quotes starts : Bool) (fields : List (List ℕ)) (p text : List ℕ) → IsPlain quotes text → ReadsPieces b quotes starts fields p text
+reads_pieces : (b : ℕ) (quotes starts : Bool) (fields : List (List ℕ)) (p text : List ℕ)
+    → IsPlain quotes text → ReadsPieces b quotes starts fields p text
 reads_pieces b quotes starts fields p [] h = at_last b quotes starts fields p
 reads_pieces b quotes starts fields p (c ∷ cs) h =
     on_byte b quotes starts fields p c cs (c == b) refl h.0 (λ starts fields p. reads_pieces b quotes starts fields p cs h.1)
@@ -171,7 +188,8 @@ unfolding next_record
 from_record b quotes c cs h = rw h refl
 
 plain_fields : (b : ℕ) (quotes : Bool) (c : ℕ) (cs : List ℕ) → IsPlain quotes (c ∷ cs) → csv_fields b quotes (c ∷ cs) ≡ pieces b (c ∷ cs)
-plain_fields b quotes c cs h = ap fields_read (from_record b quotes c cs h.0.1 ∙ reads_pieces b quotes true [] [] (c ∷ cs) h) ∙ some_pieces b (c ∷ cs)
+plain_fields b quotes c cs h =
+    ap fields_read (from_record b quotes c cs h.0.1 ∙ reads_pieces b quotes true [] [] (c ∷ cs) h) ∙ some_pieces b (c ∷ cs)
 
 -- a test of all bytes says so
 neither : (a b r : Bool) → ((a || b) || r) ≡ false → (b ≡ false) × (a ≡ false) × (r ≡ false)
@@ -190,7 +208,8 @@ none_marked true e = absurd (cc e)
 none_marked false e = refl
 
 -- a text that has something but blanks
-pub cut_is : (b : ℕ) (quotes : Bool) (text : List ℕ) → list_all is_blank text ≡ false → list_any (is_mark quotes) text ≡ false → csv_fields b quotes text ≡ pieces b text
+pub cut_is : (b : ℕ) (quotes : Bool) (text : List ℕ)
+    → list_all is_blank text ≡ false → list_any (is_mark quotes) text ≡ false → csv_fields b quotes text ≡ pieces b text
 cut_is b quotes [] some h = absurd (cc some)
 cut_is b quotes (c ∷ cs) some h = plain_fields b quotes c cs (plain-is quotes (c ∷ cs) h)
 
@@ -215,7 +234,8 @@ before_first-long : (c : ℕ) (ps : List (List ℕ)) → length (before_first c 
 before_first-long c [] = omega arith
 before_first-long c (p ∷ ps) = omega arith
 
-cut-few : (c : ℕ) (cs : List ℕ) (ps : List (List ℕ)) (e : Bool) → length ps ≤ length cs + 1 → length (if e then [] ∷ ps else before_first c ps) ≤ length (c ∷ cs) + 1
+cut-few : (c : ℕ) (cs : List ℕ) (ps : List (List ℕ)) (e : Bool)
+    → length ps ≤ length cs + 1 → length (if e then [] ∷ ps else before_first c ps) ≤ length (c ∷ cs) + 1
 cut-few c cs ps true h = omega (arith, h)
 cut-few c cs ps false h = let k = before_first-long c ps in omega (arith, h, k)
 
@@ -231,7 +251,8 @@ word-few x (c ∷ cs) ws h = by_blank (is_blank c)
     by_blank true = omega (arith, h)
     by_blank false = let k = before_first-long x ws in omega (arith, h, k)
 
-one-few : (x : ℕ) (xs : List ℕ) (ws : List (List ℕ)) (e : Bool) → length ws ≤ length xs → length (if e then ws else word_before x xs ws) ≤ length (x ∷ xs)
+one-few : (x : ℕ) (xs : List ℕ) (ws : List (List ℕ)) (e : Bool)
+    → length ws ≤ length xs → length (if e then ws else word_before x xs ws) ≤ length (x ∷ xs)
 one-few x xs ws true h = omega (arith, h)
 one-few x xs ws false h = word-few x xs ws h
 

@@ -36,7 +36,8 @@ with_lots-more (x ∷ lots) l i = ap (with_lot x) (with_lots-more lots l i)
 -- the next line is handed out
 next_line : (m : Map) (bytes rest : List ℕ) (lots : List Lot) (s : Progress) (line taken after : List ℕ)
     → imported m bytes ≡ with_lots lots (imported_after m s (recording_lines rest)) → rest ≡ taken ++ after → IsLineHanded line taken after
-    → imported m bytes ≡ with_lots lots (goes_on (lot_of m s line) (λ l. imported_after m (progress_after m s line l) (recording_lines after)))
+    → imported m bytes
+    ≡ with_lots lots (goes_on (lot_of m s line) (λ l. imported_after m (progress_after m s line l) (recording_lines after)))
 next_line m bytes rest lots s line taken after h e handed =
     h ∙ ap (λ ls. with_lots lots (imported_after m s ls)) (line_first line taken after rest handed e)
 
@@ -52,7 +53,8 @@ gave_more m (Some bytes) (Some rest) (Some more) lots s t line l h (taken, e, ha
     ∙ sym (with_lots-more lots l (imported_after m (progress_after m s line l) (recording_lines more)))
     ∙ ap (λ p. with_lots (lots ++ l ∷ []) (imported_after m p (recording_lines more))) (sym after)
 
-with_lots-fault : (lots : List Lot) (f : Option ExportFault) → with_lots lots (record { lots = []; fault = f }) ≡ record { lots = lots; fault = f }
+with_lots-fault : (lots : List Lot) (f : Option ExportFault)
+    → with_lots lots (record { lots = []; fault = f }) ≡ record { lots = lots; fault = f }
 with_lots-fault [] f = refl
 with_lots-fault (l ∷ lots) f = ap (with_lot l) (with_lots-fault lots f)
 
@@ -79,24 +81,30 @@ known : (o : Option Columns) → IsSome o → at_end o ≡ record { lots = []; f
 known (Some c) h = refl
 known None h = cc h
 
-pub gave_all : (m : Map) (bytes old : Option (List ℕ)) (lots : List Lot) (s : Progress) → Gave m bytes lots s old → IsAtEnd old → IsSome s.columns
+pub gave_all : (m : Map) (bytes old : Option (List ℕ)) (lots : List Lot) (s : Progress)
+    → Gave m bytes lots s old → IsAtEnd old → IsSome s.columns
     → IfSome bytes (λ b. imported m b ≡ record { lots = lots; fault = None })
 gave_all m None old lots s h end is = tt
-gave_all m (Some bytes) old lots s h end is = at_last m (Some bytes) old lots s h end ∙ ap (with_lots lots) (known s.columns is) ∙ with_lots-fault lots None
+gave_all m (Some bytes) old lots s h end is =
+    at_last m (Some bytes) old lots s h end ∙ ap (with_lots lots) (known s.columns is) ∙ with_lots-fault lots None
 
-pub gave_no_header : (m : Map) (bytes old : Option (List ℕ)) (lots : List Lot) (s : Progress) → Gave m bytes lots s old → IsAtEnd old → s.columns ≡ None
+pub gave_no_header : (m : Map) (bytes old : Option (List ℕ)) (lots : List Lot) (s : Progress)
+    → Gave m bytes lots s old → IsAtEnd old → s.columns ≡ None
     → IfSome bytes (λ b. imported m b ≡ record { lots = lots; fault = Some Header })
 gave_no_header m None old lots s h end is = tt
-gave_no_header m (Some bytes) old lots s h end is = at_last m (Some bytes) old lots s h end ∙ ap (λ o. with_lots lots (at_end o)) is ∙ with_lots-fault lots (Some Header)
+gave_no_header m (Some bytes) old lots s h end is =
+    at_last m (Some bytes) old lots s h end ∙ ap (λ o. with_lots lots (at_end o)) is ∙ with_lots-fault lots (Some Header)
 
 -- those that came are the first
-pub gave_these : (m : Map) (bytes old : Option (List ℕ)) (lots : List Lot) (s : Progress) → Gave m bytes lots s old → IfSome bytes (λ b. BeginsWith lots (imported m b))
+pub gave_these : (m : Map) (bytes old : Option (List ℕ)) (lots : List Lot) (s : Progress)
+    → Gave m bytes lots s old → IfSome bytes (λ b. BeginsWith lots (imported m b))
 gave_these m None old lots s h = tt
 gave_these m (Some bytes) None lots s h = absurd h
 gave_these m (Some bytes) (Some rest) lots s h = (imported_after m s (recording_lines rest), h)
 
 -- columns that are known stay
-pub known_stay : (m : Map) (known : Option Columns) (c : Columns) (fields : List (List ℕ)) (l : Lot) → known ≡ Some c → known ≡ columns_with m known fields l
+pub known_stay : (m : Map) (known : Option Columns) (c : Columns) (fields : List (List ℕ)) (l : Lot)
+    → known ≡ Some c → known ≡ columns_with m known fields l
 known_stay m None c fields l e = absurd (cc e)
 known_stay m (Some k) c fields lot.Heading e = refl
 known_stay m (Some k) c fields lot.Skipped e = refl

@@ -40,11 +40,13 @@ IsFrom latest (Ok (lot.Written e is_cut v mend)) = latest ≤ e.time
 IsFrom latest (Ok l) = ⊤
 IsFrom latest (Err f) = ⊤
 
-from_either : (latest : ℕ) (b : Bool) (x y : Result Lot ExportFault) → IsFrom latest x → IsFrom latest y → IsFrom latest (if b then x else y)
+from_either : (latest : ℕ) (b : Bool) (x y : Result Lot ExportFault)
+    → IsFrom latest x → IsFrom latest y → IsFrom latest (if b then x else y)
 from_either latest true x y h k = h
 from_either latest false x y h k = k
 
-from_then : {A : Type 0} (latest : ℕ) (r : Result A ExportFault) (more : A → Result Lot ExportFault) → ((a : A) → IsFrom latest (more a)) → IsFrom latest (and_then r more)
+from_then : {A : Type 0} (latest : ℕ) (r : Result A ExportFault) (more : A → Result Lot ExportFault) → ((a : A) → IsFrom latest (more a))
+    → IsFrom latest (and_then r more)
 from_then latest (Ok a) more h = h a
 from_then latest (Err f) more h = tt
 
@@ -52,7 +54,8 @@ abbrev pub IsAfter : ℕ → Option Ordered → Type 0
 IsAfter latest (Some o) = latest ≤ o.time
 IsAfter latest None = ⊤
 
-after_either : (latest : ℕ) (b : Bool) (x y : Option Ordered) → (b ≡ true → IsAfter latest x) → IsAfter latest y → IsAfter latest (if b then x else y)
+after_either : (latest : ℕ) (b : Bool) (x y : Option Ordered)
+    → (b ≡ true → IsAfter latest x) → IsAfter latest y → IsAfter latest (if b then x else y)
 after_either latest true x y h k = h refl
 after_either latest false x y h k = k
 
@@ -63,34 +66,41 @@ after_settled r k micros m =
     (after_either k.latest (nat_le (k.latest - m.time) r.back) _ _ (λ _. here)
     (after_either k.latest r.resets _ _ (λ _. here) tt))
 
-from_dated : (n latest : ℕ) (bus : Bus) (r : Reading) (v : Verdict) (w : ℕ) (o : Option Ordered) → IsAfter latest o → IsFrom latest (dated n bus r v w o)
+from_dated : (n latest : ℕ) (bus : Bus) (r : Reading) (v : Verdict) (w : ℕ) (o : Option Ordered)
+    → IsAfter latest o → IsFrom latest (dated n bus r v w o)
 from_dated n latest bus r v w (Some o) h = h
 from_dated n latest bus r v w None h = tt
 
-from_lot : (m : Map) (n : ℕ) (p : Past) (bus : Bus) (r : Reading) (v : Verdict) (w : ℕ) (t : Option Moved) → IsFrom p.clock.latest (lot_at m n p bus r v w t)
+from_lot : (m : Map) (n : ℕ) (p : Past) (bus : Bus) (r : Reading) (v : Verdict) (w : ℕ) (t : Option Moved)
+    → IsFrom p.clock.latest (lot_at m n p bus r v w t)
 from_lot m n p bus r v w None = tt
 from_lot m n p bus r v w (Some t) =
     from_either p.clock.latest (is_repeat m.repeats.within p.last (record { time = t.time; bus = bus; word = judged v w })) _ _ tt
     (from_dated n p.clock.latest bus r v w (settled m.time.order p.clock r.micros t) (after_settled m.time.order p.clock r.micros t))
 
-from_entry : (m : Map) (c : Columns) (n : ℕ) (p : Past) (fields : List (List ℕ)) (bus : Bus) → IsFrom p.clock.latest (entry_lot m c n p fields bus)
+from_entry : (m : Map) (c : Columns) (n : ℕ) (p : Past) (fields : List (List ℕ)) (bus : Bus)
+    → IsFrom p.clock.latest (entry_lot m c n p fields bus)
 from_entry m c n p fields bus =
     from_then p.clock.latest (needed (fault.Time n) (time_in m.time.form m.time.unit (field_at fields c.time))) _ (λ r.
     from_then p.clock.latest (needed (fault.Status n) (status_of_row m.parity (field_at fields c.status))) _ (λ status.
     from_then p.clock.latest (word_of m c n fields) _ (λ w.
     from_lot m n p bus r (verdict_of m.parity status (turned m.turning w)) (turned m.turning w) (meant m.time.order p.clock r.micros))))
 
-from_channel : (m : Map) (c : Columns) (n : ℕ) (p : Past) (fields : List (List ℕ)) (h : Channel) → IsFrom p.clock.latest (channel_lot m c n p fields h)
+from_channel : (m : Map) (c : Columns) (n : ℕ) (p : Past) (fields : List (List ℕ)) (h : Channel)
+    → IsFrom p.clock.latest (channel_lot m c n p fields h)
 from_channel m c n p fields (Line bus) = from_entry m c n p fields bus
 from_channel m c n p fields Passed = tt
 from_channel m c n p fields Unknown = tt
 
 from_row : (m : Map) (c : Columns) (n : ℕ) (p : Past) (fields : List (List ℕ)) → IsFrom p.clock.latest (row_lot m c n p fields)
-from_row m c n p fields = from_either p.clock.latest (is_some (slice_get fields c.last)) _ _ (from_channel m c n p fields (heard_on m.channels (field_at fields c.channel))) tt
+from_row m c n p fields =
+    from_either p.clock.latest (is_some (slice_get fields c.last)) _ _
+    (from_channel m c n p fields (heard_on m.channels (field_at fields c.channel))) tt
 
 from_fields : (m : Map) (s : Progress) (o : Option Columns) (fields : List (List ℕ)) → IsFrom s.past.clock.latest (fields_lot m s o fields)
 from_fields m s None fields = tt
-from_fields m s (Some c) fields = from_either s.past.clock.latest (has_text m.rows.pass (field_at fields 0)) _ _ tt (from_row m c (s.lines + 1) s.past fields)
+from_fields m s (Some c) fields =
+    from_either s.past.clock.latest (has_text m.rows.pass (field_at fields 0)) _ _ tt (from_row m c (s.lines + 1) s.past fields)
 
 from_line : (m : Map) (s : Progress) (line : List ℕ) → IsFrom s.past.clock.latest (lot_of m s line)
 from_line m s line =
@@ -104,7 +114,8 @@ falls_at_end latest None = tt
 falls_at_end latest (Some c) = tt
 
 falls_on : (m : Map) (s : Progress) (line : List ℕ) (more : Lot → Imported) (r : Result Lot ExportFault) → IsFrom s.past.clock.latest r
-    → ((l : Lot) → NeverFalls (progress_after m s line l).past.clock.latest (entries_of (more l).lots)) → NeverFalls s.past.clock.latest (entries_of (goes_on r more).lots)
+    → ((l : Lot) → NeverFalls (progress_after m s line l).past.clock.latest (entries_of (more l).lots))
+    → NeverFalls s.past.clock.latest (entries_of (goes_on r more).lots)
 falls_on m s line more (Err f) h falls = tt
 falls_on m s line more (Ok (lot.Written e is_cut v mend)) h falls = (h, falls (lot.Written e is_cut v mend))
 falls_on m s line more (Ok lot.Skipped) h falls = falls lot.Skipped
@@ -118,7 +129,8 @@ falls_on m s line more (Ok lot.Repeated) h falls = falls lot.Repeated
 falls_after : (m : Map) (s : Progress) (lines : List (List ℕ)) → NeverFalls s.past.clock.latest (entries_of (imported_after m s lines).lots)
 falls_after m s [] = falls_at_end s.past.clock.latest s.columns
 falls_after m s (line ∷ lines) =
-    falls_on m s line (λ l. imported_after m (progress_after m s line l) lines) (lot_of m s line) (from_line m s line) (λ l. falls_after m (progress_after m s line l) lines)
+    falls_on m s line (λ l. imported_after m (progress_after m s line l) lines) (lot_of m s line) (from_line m s line)
+    (λ l. falls_after m (progress_after m s line l) lines)
 
 pub never_falls : (m : Map) (bytes : List ℕ) → NeverFalls 0 (entries_of (imported m bytes).lots)
 never_falls m bytes = falls_after m (at_start m) (recording_lines bytes)
@@ -134,10 +146,13 @@ all_on : (n : ℕ) (more : Lot → Imported) (r : Result Lot ExportFault) → ((
 all_on n more (Err f) all h = absurd (cc h)
 all_on n more (Ok l) all h = ap suc (all l h)
 
-all_after : (m : Map) (s : Progress) (lines : List (List ℕ)) → (imported_after m s lines).fault ≡ None → length (imported_after m s lines).lots ≡ length lines
+all_after : (m : Map) (s : Progress) (lines : List (List ℕ))
+    → (imported_after m s lines).fault ≡ None → length (imported_after m s lines).lots ≡ length lines
 all_after m s [] e = all_at_end s.columns
 all_after m s (line ∷ lines) e =
-    all_on (length lines) (λ l. imported_after m (progress_after m s line l) lines) (lot_of m s line) (λ l. all_after m (progress_after m s line l) lines) e
+    all_on (length lines) (λ l. imported_after m (progress_after m s line l) lines) (lot_of m s line)
+    (λ l. all_after m (progress_after m s line l) lines) e
 
-pub all_lines : (m : Map) (bytes : List ℕ) → (imported m bytes).fault ≡ None → length (imported m bytes).lots ≡ length (recording_lines bytes)
+pub all_lines : (m : Map) (bytes : List ℕ)
+    → (imported m bytes).fault ≡ None → length (imported m bytes).lots ≡ length (recording_lines bytes)
 all_lines m bytes e = all_after m (at_start m) (recording_lines bytes) e

@@ -13,7 +13,8 @@ low w =
     let whole : w / 2 ^ 0 % 2 ^ 31 ≡ w % 2 ^ 31 = ap (λ n. n % 2 ^ 31) (omega arith) in
     and_mask w 31 ∙ sym (number_at-is w 0 31 ∙ whole)
 
-pub good-is : (w r : ℕ) → r ≡ bit_and w 2147483647 + (1 - count_of_ones (bit_and w 2147483647) % 2) * 2 ^ 31 → r ≡ with_bit_32 w (1 - odd_below w)
+pub good-is : (w r : ℕ)
+    → r ≡ bit_and w 2147483647 + (1 - count_of_ones (bit_and w 2147483647) % 2) * 2 ^ 31 → r ≡ with_bit_32 w (1 - odd_below w)
 good-is w r e = e ∙ ap (λ n. n + (1 - count_of_ones n % 2) * 2 ^ 31) (low w)
 
 other_bit : (n o : ℕ) → n < 2147483648 → (n + (1 - o % 2) * 2147483648 + 2147483648) % 4294967296 ≡ n + o % 2 * 2147483648

@@ -21,11 +21,13 @@ pub array_fault-tables : (header : Bool) (d : Data) (vs : List Value) (b : Bool)
     → array_fault header (Some d) ≡ (if b then tables_fault header 0 [] (map view vs) else Some (WrongKind Parts))
 array_fault-tables header d vs b has e tables = rw (← has, e, list_all-map is_table view vs, length-map vs view, ← tables) refl
 
-map-tables : (header : Bool) (vs : List Value) → map (λ d. part_in_table header (table_of d)) (map view vs) ≡ map (λ v. part_in_table header (table_of (view v))) vs
+map-tables : (header : Bool) (vs : List Value)
+    → map (λ d. part_in_table header (table_of d)) (map view vs) ≡ map (λ v. part_in_table header (table_of (view v))) vs
 map-tables header [] = refl
 map-tables header (v ∷ vs) = ap (λ ps. part_in_table header (table_of (view v)) ∷ ps) (map-tables header vs)
 
-pub parts_in-tables : (header : Bool) (d : Data) (vs : List Value) → elements_of d ≡ map view vs → parts_in header (Some d) ≡ map (λ v. part_in_table header (table_of (view v))) vs
+pub parts_in-tables : (header : Bool) (d : Data) (vs : List Value)
+    → elements_of d ≡ map view vs → parts_in header (Some d) ≡ map (λ v. part_in_table header (table_of (view v))) vs
 parts_in-tables header d vs e = rw e (map-tables header vs)
 
 -- ---- a turn further
@@ -36,7 +38,8 @@ next vs i v h e = drop_more vs i v h ∙ ap (λ x. x ∷ drop (i + 1) vs) (sym e
 -- a table without a fault leaves the faults of those after it
 pub tables_fault-next : (header : Bool) (earlier : List Part) (vs : List Value) (i : ℕ) (v : Value) → i < length vs → v ≡ get_or vs i v
     → next_fault header i earlier (view v) ≡ None
-    → tables_fault header i earlier (map view (drop i vs)) ≡ tables_fault header (i + 1) (earlier ++ part_in_table header (table_of (view v)) ∷ []) (map view (drop (i + 1) vs))
+    → tables_fault header i earlier (map view (drop i vs))
+    ≡ tables_fault header (i + 1) (earlier ++ part_in_table header (table_of (view v)) ∷ []) (map view (drop (i + 1) vs))
 tables_fault-next header earlier vs i v h e ok =
     let more : suc i ≡ i + 1 = omega arith in
     let after = earlier ++ part_in_table header (table_of (view v)) ∷ [] in

@@ -13,7 +13,8 @@ one_piece at [] h = refl
 one_piece at (c ∷ cs) h = rw (h 0 (omega arith)) (ap (before_first c) (one_piece at cs (λ k inside. h (suc k) (omega arith))))
 
 -- else its first piece ends at the first of them
-first_piece : (at : ℕ) (text : List ℕ) (end : ℕ) → end < length text → (get_or text end 0 == at) ≡ true → ((k : ℕ) → k < end → (get_or text k 0 == at) ≡ false)
+first_piece : (at : ℕ) (text : List ℕ) (end : ℕ)
+    → end < length text → (get_or text end 0 == at) ≡ true → ((k : ℕ) → k < end → (get_or text k 0 == at) ≡ false)
     → pieces at text ≡ take end text ∷ pieces at (drop (suc end) text)
 first_piece at [] end inside here before = absurd (omega arith)
 first_piece at (c ∷ cs) zero inside here before = rw here refl
@@ -21,7 +22,8 @@ first_piece at (c ∷ cs) (suc end) inside here before =
     rw (before 0 (omega arith)) (ap (before_first c) (first_piece at cs end (omega arith) here (λ k h. before (suc k) (omega arith))))
 
 -- where there is none, no byte is one
-none_of : {X : Type 0} (p : X → Bool) (xs : List X) → nat_lt (position_or_len p xs) (length xs) ≡ false → (k : ℕ) (d : X) → k < length xs → p (get_or xs k d) ≡ false
+none_of : {X : Type 0} (p : X → Bool) (xs : List X) → nat_lt (position_or_len p xs) (length xs) ≡ false → (k : ℕ) (d : X) → k < length xs
+    → p (get_or xs k d) ≡ false
 none_of p xs e k d inside =
     let all : length xs ≤ position_or_len p xs = grind (arith, nat_tests) in
     let before : k < position_or_len p xs = omega arith in
@@ -34,7 +36,8 @@ not_found false n e = refl
 pub pieces-one : (at : ℕ) (text : List ℕ) → None ≡ position (λ b. b == at) text → pieces at text ≡ text ∷ []
 pieces-one at text e = one_piece at text (λ k inside. none_of (λ b. b == at) text (not_found _ _ e) k 0 inside)
 
-pub pieces-more : (at : ℕ) (text : List ℕ) (end : ℕ) → Some end ≡ position (λ b. b == at) text → pieces at text ≡ take end text ∷ pieces at (drop (end + 1) text)
+pub pieces-more : (at : ℕ) (text : List ℕ) (end : ℕ)
+    → Some end ≡ position (λ b. b == at) text → pieces at text ≡ take end text ∷ pieces at (drop (end + 1) text)
 pieces-more at text end e =
     let found = position-Some (λ b. b == at) text end 0 (sym e) in
     rw add-one (first_piece at text end found.0 found.1 found.2)
@@ -44,7 +47,8 @@ pieces-more at text end e =
 pub alone : (at : ℕ) (text : List ℕ) → None ≡ position (λ b. b == at) text → Some text ≡ slice_get (pieces at text) 0
 alone at text e = rw (pieces-one at text e) refl
 
-pub first : (at : ℕ) (text : List ℕ) (end : ℕ) → Some end ≡ position (λ b. b == at) text → Some (take end text) ≡ slice_get (pieces at text) 0
+pub first : (at : ℕ) (text : List ℕ) (end : ℕ)
+    → Some end ≡ position (λ b. b == at) text → Some (take end text) ≡ slice_get (pieces at text) 0
 first at text end e = rw (pieces-more at text end e) refl
 
 pub none_after : (at : ℕ) (text : List ℕ) (n : ℕ) → None ≡ position (λ b. b == at) text → 0 < n → slice_get (pieces at text) n ≡ None

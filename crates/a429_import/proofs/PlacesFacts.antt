@@ -14,7 +14,8 @@ use Rattle.a429_import.specs.Counts.{is_entry}
 use Rattle.a429_import.specs.Import.{entry_before}
 use Rattle.a429_import.specs.Places.{place_line, places_after, places_at}
 
-entries-more : (x : Lot) (lots : List Lot) → length (filter is_entry (x ∷ lots)) ≡ length (entry_before x []) + length (filter is_entry lots)
+entries-more : (x : Lot) (lots : List Lot)
+    → length (filter is_entry (x ∷ lots)) ≡ length (entry_before x []) + length (filter is_entry lots)
 entries-more lot.Skipped lots = omega arith
 entries-more lot.Empty lots = omega arith
 entries-more lot.Comment lots = omega arith
@@ -38,9 +39,11 @@ places_after-more e n (x ∷ lots) l =
     ap (λ ps. places_at e (n + 1) x ++ ps) (places_after-more first (n + 1) lots l
     ∙ ap (λ i. places_after first (n + 1) lots ++ places_at i (n + 1 + length lots + 1) l) entries
     ∙ ap (λ i. places_after first (n + 1) lots ++ places_at (e + length (filter is_entry (x ∷ lots))) i l) line)
-    ∙ sym (append_assoc (places_at e (n + 1) x) (places_after first (n + 1) lots) (places_at (e + length (filter is_entry (x ∷ lots))) (n + length (x ∷ lots) + 1) l))
+    ∙ sym (append_assoc (places_at e (n + 1) x) (places_after first (n + 1) lots)
+    (places_at (e + length (filter is_entry (x ∷ lots))) (n + length (x ∷ lots) + 1) l))
 
-pub places-more : (lots : List Lot) (l : Lot) (entries lines : ℕ) (old new : List Place) → old ≡ places_after 0 0 lots → entries ≡ length (filter is_entry lots)
+pub places-more : (lots : List Lot) (l : Lot) (entries lines : ℕ) (old new : List Place)
+    → old ≡ places_after 0 0 lots → entries ≡ length (filter is_entry lots)
     → lines ≡ length lots + 1 → new ≡ old ++ places_at entries lines l → new ≡ places_after 0 0 (lots ++ l ∷ [])
 places-more lots l entries lines old new before e n is =
     let none : entries ≡ 0 + length (filter is_entry lots) = omega (arith, e) in
@@ -49,7 +52,8 @@ places-more lots l entries lines old new before e n is =
     ∙ ap (λ i. places_after 0 0 lots ++ places_at (0 + length (filter is_entry lots)) i l) line ∙ sym (places_after-more 0 0 lots l)
 
 -- their lines, one more
-pub said_more : {W : Type 0} {contents : W → Option (List ℕ)} {a b c : Sheet W} (places : List Place) (i : ℕ) (d : Place) → i < length places
+pub said_more : {W : Type 0} {contents : W → Option (List ℕ)} {a b c : Sheet W} (places : List Place) (i : ℕ) (d : Place)
+    → i < length places
     → Says contents a b (flat_map place_line (take i places)) → Says contents b c (place_line (get_or places i d))
     → Says contents a c (flat_map place_line (take (i + 1) places))
 said_more places i d inside before here =

@@ -112,7 +112,8 @@ high_mark b h =
 
 none-line : (is : ℕ → Bool) (e : Entry) → e.time < 2 ^ 64 → ((b : ℕ) → 48 ≤ b → is b ≡ false) → is 44 ≡ false → NoneIs is (body e)
 none-line is e h high comma =
-    none-append is (decimal e.time) (44 ∷ (bus_text e.bus ++ (44 ∷ (hex_text e.word ++ [])))) (none-high is (decimal e.time) high (AllHigh-decimal e.time h)) (
+    none-append is (decimal e.time) (44 ∷ (bus_text e.bus ++ (44 ∷ (hex_text e.word ++ []))))
+    (none-high is (decimal e.time) high (AllHigh-decimal e.time h)) (
       comma,
       none-append is (bus_text e.bus) (44 ∷ (hex_text e.word ++ [])) (none-high is (bus_text e.bus) high (AllHigh-bus e.bus))
           (comma, none-append is (hex_text e.word) [] (none-high is (hex_text e.word) high (AllHigh-numeral 8 e.word)) tt),
@@ -141,13 +142,16 @@ some_byte [] ys h = absurd (omega arith)
 some_byte (x ∷ xs) ys h = omega arith
 
 line_some : (e : Entry) → e.time < 2 ^ 64 → list_all is_blank (body e) ≡ false
-line_some e h = not-all is_blank (body e) (some_byte (decimal e.time) _ (decimal_nonempty e.time h)) (none-line is_blank e h high_blank refl)
+line_some e h =
+    not-all is_blank (body e) (some_byte (decimal e.time) _ (decimal_nonempty e.time h)) (none-line is_blank e h high_blank refl)
 
 entry_pieces : (e : Entry) → e.time < 2 ^ 64 → pieces 44 (body e) ≡ decimal e.time ∷ bus_text e.bus ∷ hex_text e.word ∷ []
 entry_pieces e h =
     piece_first (decimal e.time) _ (none-high (λ b. b == 44) (decimal e.time) high_comma (AllHigh-decimal e.time h))
-    ∙ ap (λ (l : List (List ℕ)). decimal e.time ∷ l) (piece_first (bus_text e.bus) _ (none-high (λ b. b == 44) (bus_text e.bus) high_comma (AllHigh-bus e.bus))
-    ∙ ap (λ (l : List (List ℕ)). bus_text e.bus ∷ l) (ap (pieces 44) (append-nil (hex_text e.word)) ∙ one_piece (hex_text e.word) (none-high (λ b. b == 44) (hex_text e.word) high_comma (AllHigh-numeral 8 e.word))))
+    ∙ ap (λ (l : List (List ℕ)). decimal e.time ∷ l)
+    (piece_first (bus_text e.bus) _ (none-high (λ b. b == 44) (bus_text e.bus) high_comma (AllHigh-bus e.bus))
+    ∙ ap (λ (l : List (List ℕ)). bus_text e.bus ∷ l) (ap (pieces 44) (append-nil (hex_text e.word))
+    ∙ one_piece (hex_text e.word) (none-high (λ b. b == 44) (hex_text e.word) high_comma (AllHigh-numeral 8 e.word))))
 
 fields_are : (e : Entry) → e.time < 2 ^ 64 → fields_in standard_map.rows (body e) ≡ decimal e.time ∷ bus_text e.bus ∷ hex_text e.word ∷ []
 fields_are e h =
@@ -168,7 +172,8 @@ time_is t h =
     let first : nat_le 1 (length (decimal t)) ≡ true = grind (arith, nat_tests) in
     let second : nat_le (length (decimal t)) 30 ≡ true = grind (arith, nat_tests) in
     let one : t * 10 ^ (0 - 0) ≡ t = omega arith in
-    rw (first, second, all_digits-from 10 (decimal t) numeral.0.1) (ap Some (sym (rw one at (kept_is 0 0 t (decimal t) [] false refl (sym numeral.1) tt refl))))
+    rw (first, second, all_digits-from 10 (decimal t) numeral.0.1)
+    (ap Some (sym (rw one at (kept_is 0 0 t (decimal t) [] false refl (sym numeral.1) tt refl))))
 
 line_is : (b : Bus) → heard_on standard_map.channels (bus_text b) ≡ Line b
 line_is A = refl
@@ -189,7 +194,8 @@ number_is w h =
 placed_is : (w : ℕ) → w < 2 ^ 32 → placed (record { low = 1; count = 32; reversed = false }) w ≡ w
 placed_is w h =
     let same : w ≡ w * 2 ^ (1 - 1) % 4294967296 = omega arith in
-    sym (same ∙ placed-straight (record { low = 1; count = 32; reversed = false }) w refl (record { first = omega arith; some = omega arith; last = omega arith }) h)
+    sym (same ∙ placed-straight (record { low = 1; count = 32; reversed = false }) w refl
+    (record { first = omega arith; some = omega arith; last = omega arith }) h)
 
 or_none : (w : ℕ) → bit_or 0 w ≡ w
 or_none w = or_zero_l w
@@ -221,7 +227,8 @@ row_is : (n latest : ℕ) (e : Entry) → e.time < 2 ^ 64 → e.word < 2 ^ 32 �
 row_is n latest e h k later =
     rw (line_is e.bus, time_is e.time h, word_is n e.word (decimal e.time) (bus_text e.bus) k) (finished_is n latest e h later)
 
-lot_is : (s : Progress) (latest : ℕ) (e : Entry) → s.columns ≡ Some standing → s.past ≡ past_at latest → e.time < 2 ^ 64 → e.word < 2 ^ 32 → latest ≤ e.time
+lot_is : (s : Progress) (latest : ℕ) (e : Entry)
+    → s.columns ≡ Some standing → s.past ≡ past_at latest → e.time < 2 ^ 64 → e.word < 2 ^ 32 → latest ≤ e.time
     → lot_of standard_map s (body e) ≡ Ok (kept e)
 lot_is s latest e columns past h k later =
     let more : nat_lt s.lines 0 ≡ false = grind (arith, nat_tests) in
@@ -230,14 +237,17 @@ lot_is s latest e columns past h k later =
 
 -- ---- all of it
 
-after_is : (es : List Entry) (s : Progress) (latest : ℕ) → s.columns ≡ Some standing → s.past ≡ past_at latest → AreEntries es → NeverFalls latest es
+after_is : (es : List Entry) (s : Progress) (latest : ℕ)
+    → s.columns ≡ Some standing → s.past ≡ past_at latest → AreEntries es → NeverFalls latest es
     → imported_after standard_map s (recording_lines (flat_map line_text es)) ≡ record { lots = map kept es; fault = None }
 after_is [] s latest columns past fit order = rw columns refl
 after_is (e ∷ es) s latest columns past fit order =
-    let lines = ap recording_lines (line-is e (flat_map line_text es)) ∙ lines_of-ended (body e) (flat_map line_text es) (body-end e fit.0) in
+    let lines =
+    ap recording_lines (line-is e (flat_map line_text es)) ∙ lines_of-ended (body e) (flat_map line_text es) (body-end e fit.0) in
     let next : (progress_after standard_map s (body e) (kept e)).past ≡ past_at e.time = rw past refl in
     ap (imported_after standard_map s) lines
-    ∙ ap (λ r. goes_on r (λ l. imported_after standard_map (progress_after standard_map s (body e) l) (recording_lines (flat_map line_text es))))
+    ∙ ap (λ r.
+    goes_on r (λ l. imported_after standard_map (progress_after standard_map s (body e) l) (recording_lines (flat_map line_text es))))
     (lot_is s latest e columns past fit.0 fit.1 order.0)
     ∙ ap (with_lot (kept e)) (after_is es (progress_after standard_map s (body e) (kept e)) e.time columns next fit.2 order.1)
 
@@ -252,11 +262,14 @@ header_columns = ap (λ (l : List (List ℕ)). columns_in standard_map (map trim
 header-end : HasNoEnd (codes "time,bus,word")
 header-end = search rules
 
-all_is : (es : List Entry) → AreEntries es → NeverFalls 0 es → imported standard_map (written_form es) ≡ record { lots = lot.Heading ∷ map kept es; fault = None }
+all_is : (es : List Entry)
+    → AreEntries es → NeverFalls 0 es → imported standard_map (written_form es) ≡ record { lots = lot.Heading ∷ map kept es; fault = None }
 all_is es fit order =
     let rest = flat_map line_text es in
     ap (imported_after standard_map (at_start standard_map)) (lines_of-ended (codes "time,bus,word") rest header-end)
-    ∙ ap (λ r. goes_on r (λ l. imported_after standard_map (progress_after standard_map (at_start standard_map) (codes "time,bus,word") l) (recording_lines rest))) header_lot
+    ∙ ap (λ r. goes_on r (λ l.
+    imported_after standard_map (progress_after standard_map (at_start standard_map) (codes "time,bus,word") l) (recording_lines rest)))
+    header_lot
     ∙ ap (with_lot lot.Heading)
     (after_is es (progress_after standard_map (at_start standard_map) (codes "time,bus,word") lot.Heading) 0 header_columns refl fit order)
 

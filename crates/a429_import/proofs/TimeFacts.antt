@@ -37,7 +37,8 @@ after-is n (d ∷ ds) =
     let long = after-is (n * 10 + digit_value d) ds in
     let short = after-is (digit_value d) ds in
     let none : 0 * 10 + digit_value d ≡ digit_value d = omega arith in
-    let first : digits_value 10 (d ∷ ds) ≡ digit_value d * 10 ^ length ds + digits_value 10 ds = ap (λ m. digits_value_after 10 m ds) none ∙ short in
+    let first : digits_value 10 (d ∷ ds) ≡ digit_value d * 10 ^ length ds + digits_value 10 ds =
+    ap (λ m. digits_value_after 10 m ds) none ∙ short in
     long ∙ rw (first, p) (omega arith)
 
 pub joined : (xs ys : List ℕ) → digits_value 10 (xs ++ ys) ≡ digits_value 10 xs * 10 ^ length ys + digits_value 10 ys
@@ -48,7 +49,8 @@ joined xs ys = after-more 0 xs ys ∙ after-is (digits_value 10 xs) ys
 no_zero : (d : ℕ) → digit_value d < 10 → (d == 48) ≡ false → 1 ≤ digit_value d
 no_zero d small e = grind (arith, nat_tests)
 
-digit_above_zero : (b : Bool) (d p v : ℕ) → (d == 48) ≡ b → digit_value d < 10 → 1 ≤ p → (not b || not (v == 0)) ≡ not (digit_value d * p + v == 0)
+digit_above_zero : (b : Bool) (d p v : ℕ)
+    → (d == 48) ≡ b → digit_value d < 10 → 1 ≤ p → (not b || not (v == 0)) ≡ not (digit_value d * p + v == 0)
 digit_above_zero true d p v e small some =
     let zero_digit : d ≡ 48 = grind (arith, nat_tests) in
     let none : digit_value d ≡ 0 = ap digit_value zero_digit in
@@ -69,7 +71,8 @@ first_digit d ds =
 pub above_zero : (ds : List ℕ) → AllDigits 10 ds → list_any (λ b. not (b == 48)) ds ≡ not (digits_value 10 ds == 0)
 above_zero [] all = refl
 above_zero (d ∷ ds) all =
-    rw (above_zero ds all.1) (digit_above_zero (d == 48) d (10 ^ length ds) (digits_value 10 ds) refl all.0 (pow-10_pos (length ds)) ∙ ap (λ n. not (n == 0)) (sym (first_digit d ds)))
+    rw (above_zero ds all.1) (digit_above_zero (d == 48) d (10 ^ length ds) (digits_value 10 ds) refl all.0 (pow-10_pos (length ds))
+    ∙ ap (λ n. not (n == 0)) (sym (first_digit d ds)))
 
 -- ---- digit by digit
 
@@ -83,7 +86,8 @@ AllDigits-drop ds zero all = all
 AllDigits-drop [] (suc i) all = tt
 AllDigits-drop (d ∷ ds) (suc i) all = AllDigits-drop ds i all.1
 
-pub next_digit : (n m : ℕ) (ds : List ℕ) (i d : ℕ) → i < length ds → m ≡ digits_value_after 10 n (take i ds) → d ≡ digit_value (get_or ds i 0) → m * 10 + d ≡ digits_value_after 10 n (take (i + 1) ds)
+pub next_digit : (n m : ℕ) (ds : List ℕ) (i d : ℕ) → i < length ds → m ≡ digits_value_after 10 n (take i ds)
+    → d ≡ digit_value (get_or ds i 0) → m * 10 + d ≡ digits_value_after 10 n (take (i + 1) ds)
 next_digit n m ds i d inside e f =
     rw (take_more ds i 0 inside, after-more n (take i ds) (get_or ds i 0 ∷ []), ← e, f) refl
 
@@ -120,7 +124,8 @@ by_either false b h = inr h
 
 -- 64 bits have room
 pub short_room : (n c : ℕ) → ((n == 0 && nat_le c 19) || (nat_lt n 10000000000000 && nat_le c 6)) ≡ true → (n + 1) * 10 ^ c ≤ 10 ^ 19
-short_room n c h = elim (by_either (n == 0 && nat_le c 19) (nat_lt n 10000000000000 && nat_le c 6) h) [ inl a ↦ none_before a | inr a ↦ some_before a ]
+short_room n c h =
+    elim (by_either (n == 0 && nat_le c 19) (nat_lt n 10000000000000 && nat_le c 6) h) [ inl a ↦ none_before a | inr a ↦ some_before a ]
   where
     none_before : (n == 0 && nat_le c 19) ≡ true → (n + 1) * 10 ^ c ≤ 10 ^ 19
     none_before a =
@@ -173,7 +178,8 @@ scaled (suc n) s some =
 cut_number : (a b p k n : ℕ) → k ≤ p → (a * 10 ^ n + b) * (10 ^ p * 1000) ≡ a * 10 ^ (p - k) * (10 ^ (k + n) * 1000) + b * (10 ^ p * 1000)
 cut_number a b p k n h =
     let places : n + p ≡ p - k + (k + n) = omega arith in
-    let powers : 10 ^ n * 10 ^ p ≡ 10 ^ (p - k) * 10 ^ (k + n) = sym (pow-add 10 n p) ∙ ap (λ m. 10 ^ m) places ∙ pow-add 10 (p - k) (k + n) in
+    let powers : 10 ^ n * 10 ^ p ≡ 10 ^ (p - k) * 10 ^ (k + n) =
+    sym (pow-add 10 n p) ∙ ap (λ m. 10 ^ m) places ∙ pow-add 10 (p - k) (k + n) in
     omega (arith, ap (λ m. a * m * 1000) powers)
 
 cut_below-none : (b p k : ℕ) → b < 1 → b * (10 ^ p * 1000) < 10 ^ (k + 0) * 1000
@@ -192,9 +198,11 @@ cut_below-all b p n h =
 
 -- ---- what a number counts
 
-counted-is : (nanos q r : ℕ) (whole part : List ℕ) (cut : Bool) → digits_value 10 (whole ++ part) * nanos ≡ q * (10 ^ length part * 1000) + r → r < 10 ^ length part * 1000 → cut ≡ not (r == 0)
+counted-is : (nanos q r : ℕ) (whole part : List ℕ) (cut : Bool)
+    → digits_value 10 (whole ++ part) * nanos ≡ q * (10 ^ length part * 1000) + r → r < 10 ^ length part * 1000 → cut ≡ not (r == 0)
     → ◌≡◌ {A = Reading} (record { micros = q; is_cut = cut }) (counted nanos whole part)
-counted-is nanos q r whole part cut e h last = rw (e, div-mul-add q (10 ^ length part * 1000) r h, mod-mul-add q (10 ^ length part * 1000) r h, last) refl
+counted-is nanos q r whole part cut e h last =
+    rw (e, div-mul-add q (10 ^ length part * 1000) r h, mod-mul-add q (10 ^ length part * 1000) r h, last) refl
 
 rest_below : (b p k m : ℕ) → b < 10 ^ m → (m ≡ 0) ⊎ (k ≡ p) → b * (10 ^ p * 1000) < 10 ^ (k + m) * 1000
 rest_below b p k m h (inl e) = rw e (cut_below-none b p k (rw e at h))
@@ -204,12 +212,15 @@ rest_below b p k m h (inr e) = rw e (cut_below-all b p m h)
 split_number : (k n : ℕ) (whole part : List ℕ) → n ≡ digits_value_after 10 (digits_value_after 10 0 whole) (take k part)
     → digits_value 10 (whole ++ part) ≡ n * 10 ^ (length part - k) + digits_value 10 (drop k part)
 split_number k n whole part e =
-    let parts : whole ++ part ≡ (whole ++ take k part) ++ drop k part = ap (λ (x : List ℕ). whole ++ x) (sym (take-append-drop k part)) ∙ sym (append_assoc whole (take k part) (drop k part)) in
+    let parts : whole ++ part ≡ (whole ++ take k part) ++ drop k part =
+    ap (λ (x : List ℕ). whole ++ x) (sym (take-append-drop k part)) ∙ sym (append_assoc whole (take k part) (drop k part)) in
     let front : digits_value 10 (whole ++ take k part) ≡ n = after-more 0 whole (take k part) ∙ sym e in
     ap (digits_value 10) parts ∙ joined (whole ++ take k part) (drop k part) ∙ rw (front, length-drop k part) refl
 
-pub kept_is : (p k n : ℕ) (whole part : List ℕ) (cut : Bool) → k ≡ min (length part) p → n ≡ digits_value_after 10 (digits_value_after 10 0 whole) (take k part) → AllDigits 10 part
-    → cut ≡ not (digits_value 10 (drop k part) == 0) → ◌≡◌ {A = Reading} (record { micros = n * 10 ^ (p - k); is_cut = cut }) (counted (10 ^ p * 1000) whole part)
+pub kept_is : (p k n : ℕ) (whole part : List ℕ) (cut : Bool)
+    → k ≡ min (length part) p → n ≡ digits_value_after 10 (digits_value_after 10 0 whole) (take k part) → AllDigits 10 part
+    → cut ≡ not (digits_value 10 (drop k part) == 0)
+    → ◌≡◌ {A = Reading} (record { micros = n * 10 ^ (p - k); is_cut = cut }) (counted (10 ^ p * 1000) whole part)
 kept_is p k n whole part cut least e all last =
     let m = length part - k in
     let b = digits_value 10 (drop k part) in
@@ -220,7 +231,8 @@ kept_is p k n whole part cut least e all last =
     let some : 1 ≤ 10 ^ p * 1000 = omega (arith, pow-10_pos p) in
     let value = ap (λ v. v * (10 ^ p * 1000)) (split_number k n whole part e) ∙ cut_number n b p k m within in
     let small = rest_below b p k m below which in
-    counted-is (10 ^ p * 1000) (n * 10 ^ (p - k)) (b * (10 ^ p * 1000)) whole part cut (rw places at value) (rw places at small) (last ∙ ap not (sym (scaled b (10 ^ p * 1000) some)))
+    counted-is (10 ^ p * 1000) (n * 10 ^ (p - k)) (b * (10 ^ p * 1000)) whole part cut (rw places at value) (rw places at small)
+    (last ∙ ap not (sym (scaled b (10 ^ p * 1000) some)))
 
 -- a number of nanoseconds: its last three digits, and those after the point, are cut off
 thousandths : (w x b : ℕ) → (w * x + b) * 1 ≡ w / 1000 * (x * 1000) + (w % 1000 * x + b)
@@ -235,12 +247,14 @@ thousandths_below w x b h =
     omega (arith, mul-le-mul_right x few)
 
 nanoseconds_are : (w : ℕ) (whole part : List ℕ) (cut : Bool) → w ≡ digits_value_after 10 0 whole → AllDigits 10 part
-    → cut ≡ not (w % 1000 * 10 ^ length part + digits_value 10 part == 0) → ◌≡◌ {A = Reading} (record { micros = w / 1000; is_cut = cut }) (counted 1 whole part)
+    → cut ≡ not (w % 1000 * 10 ^ length part + digits_value 10 part == 0)
+    → ◌≡◌ {A = Reading} (record { micros = w / 1000; is_cut = cut }) (counted 1 whole part)
 nanoseconds_are w whole part cut e all last =
     let b = digits_value 10 part in
     let x = 10 ^ length part in
     let value : digits_value 10 (whole ++ part) ≡ w * x + b = rw e (joined whole part) in
-    counted-is 1 (w / 1000) (w % 1000 * x + b) whole part cut (ap (λ v. v * 1) value ∙ thousandths w x b) (thousandths_below w x b (digits_value-lt 10 part all)) last
+    counted-is 1 (w / 1000) (w % 1000 * x + b) whole part cut (ap (λ v. v * 1) value ∙ thousandths w x b)
+    (thousandths_below w x b (digits_value-lt 10 part all)) last
 
 pub thousandth-some : (w : ℕ) (whole part : List ℕ) → w ≡ digits_value_after 10 0 whole → AllDigits 10 part → (w % 1000 ≡ 0 → ⊥)
     → ◌≡◌ {A = Reading} (record { micros = w / 1000; is_cut = not (w % 1000 == 0) }) (counted 1 whole part)
@@ -252,7 +266,8 @@ thousandth-some w whole part e all some =
     let second : (w % 1000 * 10 ^ length part + digits_value 10 part == 0) ≡ false = grind (arith, nat_tests) in
     nanoseconds_are w whole part _ e all (rw (first, second) refl)
 
-pub thousandth-none : (w : ℕ) (whole part : List ℕ) (cut : Bool) → w ≡ digits_value_after 10 0 whole → AllDigits 10 part → w % 1000 ≡ 0 → cut ≡ not (digits_value 10 part == 0)
+pub thousandth-none : (w : ℕ) (whole part : List ℕ) (cut : Bool)
+    → w ≡ digits_value_after 10 0 whole → AllDigits 10 part → w % 1000 ≡ 0 → cut ≡ not (digits_value 10 part == 0)
     → ◌≡◌ {A = Reading} (record { micros = w / 1000; is_cut = cut }) (counted 1 whole part)
 thousandth-none w whole part cut e all none last =
     let same : digits_value 10 part ≡ w % 1000 * 10 ^ length part + digits_value 10 part = rw none (omega arith) in

@@ -8,7 +8,8 @@ four : (f : ℕ → ℕ) → sum_below 4 f ≡ f 0 + f 1 + f 2 + f 3
 unfolding sum_below
 four f = omega arith
 
-pub bytes_turned-is : (w : ℕ) → w < 4294967296 → bytes_turned w ≡ w % 256 * 16777216 + w / 256 % 256 * 65536 + w / 65536 % 256 * 256 + w / 16777216
+pub bytes_turned-is : (w : ℕ)
+    → w < 4294967296 → bytes_turned w ≡ w % 256 * 16777216 + w / 256 % 256 * 65536 + w / 65536 % 256 * 256 + w / 16777216
 bytes_turned-is w h =
     let a : number_at w 1 8 ≡ w / 1 % 256 = number_at-is w 0 8 in
     let b : number_at w 9 8 ≡ w / 256 % 256 = number_at-is w 8 8 in

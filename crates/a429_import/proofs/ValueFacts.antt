@@ -12,7 +12,8 @@ use Rattle.a429_import.specs.Value as rule
 use Rattle.a429_import.specs.Value.{texts_of_value}
 use Rattle.a429_import.specs.Key.{value_fault}
 
-pub texts-fault : (k : Key) (d : Data) (vs : List Value) (b : Bool) → true ≡ is_some (as_array d) → elements_of d ≡ map view vs → b ≡ list_all (λ v. is_text (view v)) vs
+pub texts-fault : (k : Key) (d : Data) (vs : List Value) (b : Bool)
+    → true ≡ is_some (as_array d) → elements_of d ≡ map view vs → b ≡ list_all (λ v. is_text (view v)) vs
     → value_fault k rule.texts d ≡ (if b then None else Some (WrongKind k))
 texts-fault k d vs b has e texts = rw (← has, e, list_all-map is_text view vs, ← texts) refl
 

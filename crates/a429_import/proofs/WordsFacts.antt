@@ -51,16 +51,19 @@ word_either : (w : ℕ) (b : Bool) (x y : Result Lot ExportFault) → IsWord w x
 word_either w true x y h k = h
 word_either w false x y h k = k
 
-word_at : (m : Map) (n : ℕ) (p : Past) (bus : Bus) (r : Reading) (v : Verdict) (w : ℕ) (t : Option Moved) → IsWord (judged v w) (lot_at m n p bus r v w t)
+word_at : (m : Map) (n : ℕ) (p : Past) (bus : Bus) (r : Reading) (v : Verdict) (w : ℕ) (t : Option Moved)
+    → IsWord (judged v w) (lot_at m n p bus r v w t)
 word_at m n p bus r v w None = tt
 word_at m n p bus r v w (Some t) =
     word_either (judged v w) (is_repeat m.repeats.within p.last (record { time = t.time; bus = bus; word = judged v w })) _ _ tt
     (word_dated n bus r v w (settled m.time.order p.clock r.micros t))
 
-judged_same : (m : Map) (status : Verdict) (w : ℕ) → KeepsWords m → judged (verdict_of m.parity status (turned m.turning w)) (turned m.turning w) ≡ w
+judged_same : (m : Map) (status : Verdict) (w : ℕ)
+    → KeepsWords m → judged (verdict_of m.parity status (turned m.turning w)) (turned m.turning w) ≡ w
 judged_same m status w keeps = rw (keeps.parity, keeps.turning) refl
 
-word_finished : (m : Map) (n : ℕ) (p : Past) (bus : Bus) (r : Reading) (status : Verdict) (w : ℕ) → KeepsWords m → IsWord w (finished m n p bus r status w)
+word_finished : (m : Map) (n : ℕ) (p : Past) (bus : Bus) (r : Reading) (status : Verdict) (w : ℕ)
+    → KeepsWords m → IsWord w (finished m n p bus r status w)
 word_finished m n p bus r status w keeps =
     subst (λ (v : ℕ). IsWord v (finished m n p bus r status w)) (judged_same m status w keeps)
     (word_at m n p bus r (verdict_of m.parity status (turned m.turning w)) (turned m.turning w) (meant m.time.order p.clock r.micros))
@@ -71,7 +74,8 @@ abbrev IsOfRow : Map → Option Columns → ℕ → List (List ℕ) → Result L
 IsOfRow m known n fields (Ok l) = HasRowWord m known n fields l
 IsOfRow m known n fields (Err f) = ⊤
 
-row_word : (m : Map) (c : Columns) (n : ℕ) (fields : List (List ℕ)) (w : ℕ) (x : Result Lot ExportFault) → word_of m c n fields ≡ Ok w → IsWord w x → IsOfRow m (Some c) n fields x
+row_word : (m : Map) (c : Columns) (n : ℕ) (fields : List (List ℕ)) (w : ℕ) (x : Result Lot ExportFault)
+    → word_of m c n fields ≡ Ok w → IsWord w x → IsOfRow m (Some c) n fields x
 row_word m c n fields w (Err f) is h = tt
 row_word m c n fields w (Ok (lot.Written e is_cut v mend)) is h = is ∙ ap Ok (sym h)
 row_word m c n fields w (Ok lot.Skipped) is h = tt
@@ -87,33 +91,41 @@ row_either : (m : Map) (known : Option Columns) (n : ℕ) (fields : List (List �
 row_either m known n fields true x y h k = h
 row_either m known n fields false x y h k = k
 
-row_then : {A : Type 0} (m : Map) (known : Option Columns) (n : ℕ) (fields : List (List ℕ)) (r : Result A ExportFault) (more : A → Result Lot ExportFault)
+row_then : {A : Type 0} (m : Map) (known : Option Columns) (n : ℕ) (fields : List (List ℕ)) (r : Result A ExportFault)
+    (more : A → Result Lot ExportFault)
     → ((a : A) → r ≡ Ok a → IsOfRow m known n fields (more a)) → IsOfRow m known n fields (and_then r more)
 row_then m known n fields (Ok a) more h = h a refl
 row_then m known n fields (Err f) more h = tt
 
-row_entry : (m : Map) (c : Columns) (n : ℕ) (p : Past) (fields : List (List ℕ)) (bus : Bus) → KeepsWords m → IsOfRow m (Some c) n fields (entry_lot m c n p fields bus)
+row_entry : (m : Map) (c : Columns) (n : ℕ) (p : Past) (fields : List (List ℕ)) (bus : Bus)
+    → KeepsWords m → IsOfRow m (Some c) n fields (entry_lot m c n p fields bus)
 row_entry m c n p fields bus keeps =
     row_then m (Some c) n fields (needed (fault.Time n) (time_in m.time.form m.time.unit (field_at fields c.time))) _ (λ r _.
     row_then m (Some c) n fields (needed (fault.Status n) (status_of_row m.parity (field_at fields c.status))) _ (λ status _.
     row_then m (Some c) n fields (word_of m c n fields) _ (λ w is.
     row_word m c n fields w (finished m n p bus r status w) is (word_finished m n p bus r status w keeps))))
 
-row_channel : (m : Map) (c : Columns) (n : ℕ) (p : Past) (fields : List (List ℕ)) (h : Channel) → KeepsWords m → IsOfRow m (Some c) n fields (channel_lot m c n p fields h)
+row_channel : (m : Map) (c : Columns) (n : ℕ) (p : Past) (fields : List (List ℕ)) (h : Channel)
+    → KeepsWords m → IsOfRow m (Some c) n fields (channel_lot m c n p fields h)
 row_channel m c n p fields (Line bus) keeps = row_entry m c n p fields bus keeps
 row_channel m c n p fields Passed keeps = tt
 row_channel m c n p fields Unknown keeps = tt
 
-row_row : (m : Map) (c : Columns) (n : ℕ) (p : Past) (fields : List (List ℕ)) → KeepsWords m → IsOfRow m (Some c) n fields (row_lot m c n p fields)
+row_row : (m : Map) (c : Columns) (n : ℕ) (p : Past) (fields : List (List ℕ))
+    → KeepsWords m → IsOfRow m (Some c) n fields (row_lot m c n p fields)
 row_row m c n p fields keeps =
-    row_either m (Some c) n fields (is_some (slice_get fields c.last)) _ _ (row_channel m c n p fields (heard_on m.channels (field_at fields c.channel)) keeps) tt
+    row_either m (Some c) n fields (is_some (slice_get fields c.last)) _ _
+    (row_channel m c n p fields (heard_on m.channels (field_at fields c.channel)) keeps) tt
 
-row_fields : (m : Map) (s : Progress) (known : Option Columns) (fields : List (List ℕ)) → KeepsWords m → IsOfRow m known (s.lines + 1) fields (fields_lot m s known fields)
+row_fields : (m : Map) (s : Progress) (known : Option Columns) (fields : List (List ℕ))
+    → KeepsWords m → IsOfRow m known (s.lines + 1) fields (fields_lot m s known fields)
 row_fields m s None fields keeps = tt
 row_fields m s (Some c) fields keeps =
-    row_either m (Some c) (s.lines + 1) fields (has_text m.rows.pass (field_at fields 0)) _ _ tt (row_row m c (s.lines + 1) s.past fields keeps)
+    row_either m (Some c) (s.lines + 1) fields (has_text m.rows.pass (field_at fields 0)) _ _ tt
+    (row_row m c (s.lines + 1) s.past fields keeps)
 
-row_line : (m : Map) (s : Progress) (line : List ℕ) → KeepsWords m → IsOfRow m s.columns (s.lines + 1) (fields_in m.rows line) (lot_of m s line)
+row_line : (m : Map) (s : Progress) (line : List ℕ)
+    → KeepsWords m → IsOfRow m s.columns (s.lines + 1) (fields_in m.rows line) (lot_of m s line)
 row_line m s line keeps =
     row_either m s.columns (s.lines + 1) (fields_in m.rows line) (nat_lt s.lines m.rows.skip) _ _ tt
     (row_either m s.columns (s.lines + 1) (fields_in m.rows line) (list_all is_blank (text_of line)) _ _ tt
@@ -127,7 +139,8 @@ words_at_end m s None = tt
 words_at_end m s (Some c) = tt
 
 words_on : (m : Map) (s : Progress) (line : List ℕ) (lines : List (List ℕ)) (more : Lot → Imported) (r : Result Lot ExportFault)
-    → IsOfRow m s.columns (s.lines + 1) (fields_in m.rows line) r → ((l : Lot) → HaveRowWords m (progress_after m s line l) lines (more l).lots)
+    → IsOfRow m s.columns (s.lines + 1) (fields_in m.rows line) r
+    → ((l : Lot) → HaveRowWords m (progress_after m s line l) lines (more l).lots)
     → HaveRowWords m s (line ∷ lines) (goes_on r more).lots
 words_on m s line lines more (Err f) h all = tt
 words_on m s line lines more (Ok l) h all = (h, all l)

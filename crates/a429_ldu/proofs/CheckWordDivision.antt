@@ -27,7 +27,8 @@ xor_front-zeros (suc k) r =
     let same : (bit_at r k + 0) % 2 ≡ bit_at r k = omega arith in cc
 
 -- two numbers in front are their exclusive or in front
-xor_front-twice : (k p r : ℕ) (bs : List ℕ) → xor_front (top_bits k p) (xor_front (top_bits k r) bs) ≡ xor_front (top_bits k (bit_xor r p)) bs
+xor_front-twice : (k p r : ℕ) (bs : List ℕ)
+    → xor_front (top_bits k p) (xor_front (top_bits k r) bs) ≡ xor_front (top_bits k (bit_xor r p)) bs
 xor_front-twice zero p r bs = refl
 xor_front-twice (suc k) p r [] = refl
 xor_front-twice (suc k) p r (b ∷ bs) =
@@ -39,7 +40,8 @@ xor_front-twice (suc k) p r (b ∷ bs) =
 bit_at-moved : (n i : ℕ) → bit_at (n * 2) (suc i) ≡ bit_at n i
 bit_at-moved n i = bit_at-suc (n * 2) i ∙ ap (λ m. bit_at m i) (omega arith)
 
-xor_front-moved : (k r : ℕ) (bs : List ℕ) → AreBits bs → k < length bs → xor_front (top_bits (suc k) (r * 2)) bs ≡ xor_front (top_bits k r) bs
+xor_front-moved : (k r : ℕ) (bs : List ℕ)
+    → AreBits bs → k < length bs → xor_front (top_bits (suc k) (r * 2)) bs ≡ xor_front (top_bits k r) bs
 xor_front-moved k r [] bits room = absurd (omega arith)
 xor_front-moved zero r (b ∷ bs) bits room =
     let small = bits.0 in
@@ -53,23 +55,31 @@ top_bits-mod : (k m n : ℕ) → k ≤ m → top_bits k (n % 2 ^ m) ≡ top_bits
 top_bits-mod zero m n h = refl
 top_bits-mod (suc k) m n h =
     let low = top_bits-mod k m n (omega arith) in
-    let same : bit_at (n % 2 ^ m) k ≡ bit_at n k = sym (bit_at_cat_low (n / 2 ^ m) m (n % 2 ^ m) k (omega arith)) ∙ ap (λ x. bit_at x k) (shr_split n m) in cc
+    let same : bit_at (n % 2 ^ m) k ≡ bit_at n k =
+    sym (bit_at_cat_low (n / 2 ^ m) m (n % 2 ^ m) k (omega arith)) ∙ ap (λ x. bit_at x k) (shr_split n m) in cc
 
 -- one place of the division is one step of the register
 fed-front : (poly r : ℕ) (rest : List ℕ) (t : Bool) → AreBits rest → 16 ≤ length rest →
-    cond t (xor_front (top_bits 16 poly) (xor_front (top_bits 15 r) rest)) (xor_front (top_bits 15 r) rest) ≡ xor_front (top_bits 16 (cond t (bit_xor (r * 2 % 65536) poly) (r * 2 % 65536))) rest
+    cond t (xor_front (top_bits 16 poly) (xor_front (top_bits 15 r) rest)) (xor_front (top_bits 15 r) rest)
+    ≡ xor_front (top_bits 16 (cond t (bit_xor (r * 2 % 65536) poly) (r * 2 % 65536))) rest
 fed-front poly r rest t bits room = by_test t
   where
     moved : xor_front (top_bits 15 r) rest ≡ xor_front (top_bits 16 (r * 2 % 65536)) rest
-    moved = sym (xor_front-moved 15 r rest bits (omega arith)) ∙ ap (λ ds. xor_front ds rest) (sym (top_bits-mod 16 16 (r * 2) (omega arith)))
+    moved =
+        sym (xor_front-moved 15 r rest bits (omega arith)) ∙ ap (λ ds. xor_front ds rest) (sym (top_bits-mod 16 16 (r * 2) (omega arith)))
 
-    by_test : (b : Bool) → cond b (xor_front (top_bits 16 poly) (xor_front (top_bits 15 r) rest)) (xor_front (top_bits 15 r) rest) ≡ xor_front (top_bits 16 (cond b (bit_xor (r * 2 % 65536) poly) (r * 2 % 65536))) rest
+    by_test : (b : Bool)
+        → cond b (xor_front (top_bits 16 poly) (xor_front (top_bits 15 r) rest)) (xor_front (top_bits 15 r) rest)
+        ≡ xor_front (top_bits 16 (cond b (bit_xor (r * 2 % 65536) poly) (r * 2 % 65536))) rest
     by_test true = ap (xor_front (top_bits 16 poly)) moved ∙ xor_front-twice 16 poly (r * 2 % 65536) rest
     by_test false = moved
 
 -- the register is the remainder so far
-pub register-divides : (poly r : ℕ) (fs : List ℕ) → AreBits fs → divide (top_bits 16 poly) (length fs) (xor_front (top_bits 16 r) (fs ++ replicate 16 0)) ≡ top_bits 16 (fold (fed poly) r fs)
+pub register-divides : (poly r : ℕ) (fs : List ℕ) → AreBits fs
+    → divide (top_bits 16 poly) (length fs) (xor_front (top_bits 16 r) (fs ++ replicate 16 0)) ≡ top_bits 16 (fold (fed poly) r fs)
 register-divides poly r [] bits = xor_front-zeros 16 r
 register-divides poly r (f ∷ fs) bits =
-    ap (divide (top_bits 16 poly) (length fs)) (fed-front poly r (fs ++ replicate 16 0) (eqb ((bit_at r 15 + f) % 2) 1) (AreBits-append fs (replicate 16 0) bits.1 (AreBits-zeros 16)) (omega (arith, length-append fs (replicate 16 0))))
+    ap (divide (top_bits 16 poly) (length fs))
+    (fed-front poly r (fs ++ replicate 16 0) (eqb ((bit_at r 15 + f) % 2) 1) (AreBits-append fs (replicate 16 0) bits.1 (AreBits-zeros 16))
+    (omega (arith, length-append fs (replicate 16 0))))
     ∙ register-divides poly (fed poly r f) fs bits.1

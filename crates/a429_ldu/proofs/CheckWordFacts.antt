@@ -18,20 +18,26 @@ AreBits-top_bits zero n = tt
 AreBits-top_bits (suc k) n = (bit_at-lt n k, AreBits-top_bits k n)
 
 AreBits-fed_bits : (low_first : Bool) (n : ℕ) → AreBits (fed_bits low_first n)
-AreBits-fed_bits true n = (bit_at-lt n 0, (bit_at-lt n 1, (bit_at-lt n 2, (bit_at-lt n 3, (bit_at-lt n 4, (bit_at-lt n 5, (bit_at-lt n 6, (bit_at-lt n 7, tt))))))))
+AreBits-fed_bits true n = (
+  bit_at-lt n 0,
+  (bit_at-lt n 1, (bit_at-lt n 2, (bit_at-lt n 3, (bit_at-lt n 4, (bit_at-lt n 5, (bit_at-lt n 6, (bit_at-lt n 7, tt))))))),
+)
 AreBits-fed_bits false n = AreBits-top_bits 8 n
 
 pub AreBits-fed : (low_first : Bool) (bytes : List ℕ) → AreBits (flat_map (fed_bits low_first) bytes)
 AreBits-fed low_first [] = tt
-AreBits-fed low_first (b ∷ bytes) = AreBits-append (fed_bits low_first b) (flat_map (fed_bits low_first) bytes) (AreBits-fed_bits low_first b) (AreBits-fed low_first bytes)
+AreBits-fed low_first (b ∷ bytes) =
+    AreBits-append (fed_bits low_first b) (flat_map (fed_bits low_first) bytes) (AreBits-fed_bits low_first b) (AreBits-fed low_first bytes)
 
 -- one byte more
-pub byte_more : (g : ℕ → ℕ → ℕ) (init r s i : ℕ) (low_first : Bool) (bytes bits : List ℕ) → i < length bytes → r ≡ fold g init (flat_map (fed_bits low_first) (take i bytes)) →
+pub byte_more : (g : ℕ → ℕ → ℕ) (init r s i : ℕ) (low_first : Bool) (bytes bits : List ℕ) → i < length bytes
+    → r ≡ fold g init (flat_map (fed_bits low_first) (take i bytes)) →
     bits ≡ fed_bits low_first (get_or bytes i 0) → s ≡ fold g r bits → s ≡ fold g init (flat_map (fed_bits low_first) (take (i + 1) bytes))
 byte_more g init r s i low_first bytes bits room er eb es =
     let f = fed_bits low_first in
     let b = get_or bytes i 0 in
-    let more : flat_map f (take (i + 1) bytes) ≡ flat_map f (take i bytes) ++ f b = ap (flat_map f) (take_more bytes i 0 room) ∙ flat_map-append f (take i bytes) (b ∷ []) ∙ ap (λ xs. flat_map f (take i bytes) ++ xs) (append-nil (f b)) in
+    let more : flat_map f (take (i + 1) bytes) ≡ flat_map f (take i bytes) ++ f b = ap (flat_map f) (take_more bytes i 0 room)
+    ∙ flat_map-append f (take i bytes) (b ∷ []) ∙ ap (λ xs. flat_map f (take i bytes) ++ xs) (append-nil (f b)) in
     es ∙ ap (fold g r) eb ∙ ap (λ x. fold g x (f b)) er ∙ sym (ap (fold g init) more ∙ fold-append g init (flat_map f (take i bytes)) (f b))
 
 number-top_bits : (k n a : ℕ) → number_from_digits_after 2 a (top_bits k n) ≡ a * 2 ^ k + n % 2 ^ k
@@ -86,10 +92,12 @@ reversed-byte t n r et er = ap (fed_bits true) er ∙ turned ∙ ap (λ b. fed_b
     turned : fed_bits true (reverse_bits_onto 8 n 0) ≡ fed_bits false n
     turned = cc (reversed_0 n, reversed_1 n, reversed_2 n, reversed_3 n, reversed_4 n, reversed_5 n, reversed_6 n, reversed_7 n)
 
-whole : (k : Check) (r s : ℕ) (bytes : List ℕ) → r ≡ register_after k bytes → s ≡ remainder_number k.low_first (top_bits 16 r) → bit_xor s k.xor ≡ check_of k bytes
+whole : (k : Check) (r s : ℕ) (bytes : List ℕ)
+    → r ≡ register_after k bytes → s ≡ remainder_number k.low_first (top_bits 16 r) → bit_xor s k.xor ≡ check_of k bytes
 whole k r s bytes er es =
     ap (λ x. bit_xor x k.xor) (es ∙ ap (λ x. remainder_number k.low_first (top_bits 16 x)) er
-    ∙ ap (remainder_number k.low_first) (sym (register-divides k.poly k.init (flat_map (fed_bits k.low_first) bytes) (AreBits-fed k.low_first bytes))))
+    ∙ ap (remainder_number k.low_first)
+    (sym (register-divides k.poly k.init (flat_map (fed_bits k.low_first) bytes) (AreBits-fed k.low_first bytes))))
 
 -- ---- a check word has 16 bits
 
@@ -115,7 +123,8 @@ pub check_of-lt : (k : Check) (bytes : List ℕ) → k.xor ≤ 65535 → check_o
 check_of-lt k bytes h =
     let divided = register-divides k.poly k.init (flat_map (fed_bits k.low_first) bytes) (AreBits-fed k.low_first bytes) in
     let small = remainder_number-lt k.low_first (register_after k bytes) in
-    let below : check_of k bytes < 2 ^ 16 = rw divided (xor_lt 16 (remainder_number k.low_first (top_bits 16 (register_after k bytes))) k.xor small (omega arith)) in
+    let below : check_of k bytes < 2 ^ 16 =
+    rw divided (xor_lt 16 (remainder_number k.low_first (top_bits 16 (register_after k bytes))) k.xor small (omega arith)) in
     omega arith
 
 -- ---- the register ends with the check word
@@ -143,7 +152,8 @@ check-by-register k bytes hp hi =
 
 -- ---- the same by a register whose bits stand in the other order
 
-pub by_down : (k : Check) (r s : ℕ) (bytes : List ℕ) → k.poly < 2 ^ 16 → k.init < 2 ^ 16 → r ≡ fold (fed_down (turned k.poly)) (turned k.init) (flat_map (fed_bits k.low_first) bytes) → s ≡ cond k.low_first r (turned r) →
+pub by_down : (k : Check) (r s : ℕ) (bytes : List ℕ) → k.poly < 2 ^ 16 → k.init < 2 ^ 16
+    → r ≡ fold (fed_down (turned k.poly)) (turned k.init) (flat_map (fed_bits k.low_first) bytes) → s ≡ cond k.low_first r (turned r) →
     bit_xor s k.xor ≡ check_of k bytes
 by_down k r s bytes hp hi er es =
     ap (λ x. bit_xor x k.xor) (es ∙ ordered k.low_first) ∙ check-by-register k bytes hp hi

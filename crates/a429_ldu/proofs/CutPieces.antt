@@ -37,14 +37,17 @@ concat-fives (p ∷ q ∷ r ∷ []) = refl
 concat-fives (p ∷ q ∷ r ∷ s ∷ []) = refl
 concat-fives (p ∷ q ∷ r ∷ s ∷ t ∷ rest) = ap (λ xs. p ∷ q ∷ r ∷ s ∷ t ∷ xs) (concat-fives rest)
 
-data_of : (p : Contents) → IsProfile p → (ss : List ℕ) → AreDigits ss → AreDataWords p.codes (map (λ semis. word_number p.codes (Part semis)) (fives ss)) (fives ss)
+data_of : (p : Contents) → IsProfile p → (ss : List ℕ) → AreDigits ss
+    → AreDataWords p.codes (map (λ semis. word_number p.codes (Part semis)) (fives ss)) (fives ss)
 data_of p is [] h = tt
 data_of p is (a ∷ []) h = (word_number-is p is (Part (a ∷ [])) (omega arith, omega arith, h), tt)
 data_of p is (a ∷ b ∷ []) h = (word_number-is p is (Part (a ∷ b ∷ [])) (omega arith, omega arith, h), tt)
 data_of p is (a ∷ b ∷ c ∷ []) h = (word_number-is p is (Part (a ∷ b ∷ c ∷ [])) (omega arith, omega arith, h), tt)
 data_of p is (a ∷ b ∷ c ∷ d ∷ []) h = (word_number-is p is (Part (a ∷ b ∷ c ∷ d ∷ [])) (omega arith, omega arith, h), tt)
-data_of p is (a ∷ b ∷ c ∷ d ∷ e ∷ rest) h =
-    (word_number-is p is (Part (a ∷ b ∷ c ∷ d ∷ e ∷ [])) (omega arith, omega arith, (h.0, (h.1.0, (h.1.1.0, (h.1.1.1.0, (h.1.1.1.1.0, tt)))))), data_of p is rest h.1.1.1.1.1)
+data_of p is (a ∷ b ∷ c ∷ d ∷ e ∷ rest) h = (
+  word_number-is p is (Part (a ∷ b ∷ c ∷ d ∷ e ∷ [])) (omega arith, omega arith, (h.0, (h.1.0, (h.1.1.0, (h.1.1.1.0, (h.1.1.1.1.0, tt)))))),
+  data_of p is rest h.1.1.1.1.1,
+)
 
 -- how many words
 fives-most : (ss : List ℕ) → length (fives ss) * 5 < length ss + 5
@@ -103,7 +106,8 @@ room-most w h = omega arith
 room-words : (max_words n : ℕ) → 3 ≤ max_words → n ≤ room max_words → 2 * n ≤ 5 * (max_words - 2)
 room-words w n h k = omega arith
 
-pub unit-words : (p : Contents) (bs : List ℕ) (max_words flags : ℕ) → 3 ≤ max_words → IsPiece (room max_words) bs → count_of (unit_of p bs flags) ≤ max_words
+pub unit-words : (p : Contents) (bs : List ℕ) (max_words flags : ℕ)
+    → 3 ≤ max_words → IsPiece (room max_words) bs → count_of (unit_of p bs flags) ≤ max_words
 unit-words p bs w flags h piece = let most = words-most p bs (w - 2) (room-words w (length bs) h piece.most) in omega arith
 
 -- ---- pieces
@@ -125,8 +129,13 @@ small-drop (suc n) [] h = tt
 small-drop (suc n) (b ∷ bs) h = small-drop n bs h.1
 
 -- one piece more
-cut_step : (m : ℕ) (bs : List ℕ) (qs : List (List ℕ)) (t : Bool) → nat_le (length bs) m ≡ t → 1 ≤ m → AreBytes bs → 1 ≤ length bs → (m < length bs → AreCut m (drop m bs) qs) → AreCut m bs (cond t (bs ∷ []) (take m bs ∷ qs))
-cut_step m bs qs true e hm small some later = record { each = (record { small = small; some = some; most = leb-true (length bs) m e }, tt); whole = append-nil bs; some = omega arith }
+cut_step : (m : ℕ) (bs : List ℕ) (qs : List (List ℕ)) (t : Bool) → nat_le (length bs) m ≡ t → 1 ≤ m → AreBytes bs → 1 ≤ length bs
+    → (m < length bs → AreCut m (drop m bs) qs) → AreCut m bs (cond t (bs ∷ []) (take m bs ∷ qs))
+cut_step m bs qs true e hm small some later = record {
+  each = (record { small = small; some = some; most = leb-true (length bs) m e }, tt);
+  whole = append-nil bs;
+  some = omega arith;
+}
 cut_step m bs qs false e hm small some later =
     let above : m < length bs = leb-false (length bs) m e in
     let rest = later above in
@@ -142,7 +151,8 @@ unfolding pieces
 pieces-cut zero m bs hm small some most = absurd (omega arith)
 pieces-cut (suc f) m bs hm small some most =
     cut_step m bs (pieces f m (drop m bs)) (nat_le (length bs) m) refl hm small some
-    (λ above. let left = length-drop m bs in let one : suc f * m ≡ f * m + m = omega arith in pieces-cut f m (drop m bs) hm (small-drop m bs small) (omega arith) (omega arith))
+    (λ above. let left = length-drop m bs in let one : suc f * m ≡ f * m + m = omega arith in
+    pieces-cut f m (drop m bs) hm (small-drop m bs small) (omega arith) (omega arith))
 
 -- ---- sizes of pieces
 
@@ -150,7 +160,9 @@ first_size : (size : ℕ) (piece : List ℕ) (ps : List (List ℕ)) → length p
 first_size size piece [] e h = absurd h
 first_size size piece (q ∷ qs) e h = (e, h)
 
-size_step : (m : ℕ) (bs : List ℕ) (qs : List (List ℕ)) (t : Bool) → nat_le (length bs) m ≡ t → 1 ≤ length bs → (m < length bs → (concat qs ≡ drop m bs) × HaveSizes m qs) → (concat (cond t (bs ∷ []) (take m bs ∷ qs)) ≡ bs) × HaveSizes m (cond t (bs ∷ []) (take m bs ∷ qs))
+size_step : (m : ℕ) (bs : List ℕ) (qs : List (List ℕ)) (t : Bool)
+    → nat_le (length bs) m ≡ t → 1 ≤ length bs → (m < length bs → (concat qs ≡ drop m bs) × HaveSizes m qs)
+    → (concat (cond t (bs ∷ []) (take m bs ∷ qs)) ≡ bs) × HaveSizes m (cond t (bs ∷ []) (take m bs ∷ qs))
 size_step m bs qs true e some later = (append-nil bs, (some, leb-true (length bs) m e))
 size_step m bs qs false e some later =
     let above : m < length bs = leb-false (length bs) m e in
@@ -158,12 +170,14 @@ size_step m bs qs false e some later =
     let front = length-take m bs in
     (ap (λ xs. take m bs ++ xs) rest.0 ∙ take-append-drop m bs, first_size m (take m bs) qs (omega arith) rest.1)
 
-pub pieces-sized : (f m : ℕ) (bs : List ℕ) → 1 ≤ m → 1 ≤ length bs → length bs ≤ f * m → (concat (pieces f m bs) ≡ bs) × HaveSizes m (pieces f m bs)
+pub pieces-sized : (f m : ℕ) (bs : List ℕ)
+    → 1 ≤ m → 1 ≤ length bs → length bs ≤ f * m → (concat (pieces f m bs) ≡ bs) × HaveSizes m (pieces f m bs)
 unfolding pieces
 pieces-sized zero m bs hm some most = absurd (omega arith)
 pieces-sized (suc f) m bs hm some most =
     size_step m bs (pieces f m (drop m bs)) (nat_le (length bs) m) refl some
-    (λ above. let left = length-drop m bs in let one : suc f * m ≡ f * m + m = omega arith in pieces-sized f m (drop m bs) hm (omega arith) (omega arith))
+    (λ above. let left = length-drop m bs in let one : suc f * m ≡ f * m + m = omega arith in
+    pieces-sized f m (drop m bs) hm (omega arith) (omega arith))
 
 pub room-is : (w n : ℕ) → (n ≤ room w) ↔ (2 * n ≤ 5 * (w - 2))
 room-is w n = (λ h. room_to (w - 2) n h, λ h. room_from (w - 2) n h)

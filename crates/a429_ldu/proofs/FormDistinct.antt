@@ -50,10 +50,13 @@ record FourDiffer (ks : List ℕ) : Type 0 where
 
 four_differ : (ks : List ℕ) → length ks ≡ 4 → IsDistinct nat_eq ks → FourDiffer ks
 unfolding IsDistinct
-four_differ (a ∷ b ∷ c ∷ d ∷ []) h e = record { one_two = e.0.0; one_three = e.0.1.0; one_four = e.0.1.1.0; two_three = e.1.0.0; two_four = e.1.0.1.0; three_four = e.1.1.0.0 }
+four_differ (a ∷ b ∷ c ∷ d ∷ []) h e =
+    record { one_two = e.0.0; one_three = e.0.1.0; one_four = e.0.1.1.0; two_three = e.1.0.0; two_four = e.1.0.1.0; three_four = e.1.1.0.0 }
 four_differ _ h e = absurd (omega arith)
 
-distinct_of : (c : Codes) → FourDiffer c.partial_codes → IsDistinct nat_eq ((c.full ∷ c.partial ∷ c.protocol ∷ c.sot ∷ c.eot ∷ []) ++ c.ignored_types) → IsDistinct nat_eq ((c.rts ∷ c.cts ∷ c.ack ∷ c.nak ∷ []) ++ c.ignored_codes) → AreDistinct c
+distinct_of : (c : Codes)
+    → FourDiffer c.partial_codes → IsDistinct nat_eq ((c.full ∷ c.partial ∷ c.protocol ∷ c.sot ∷ c.eot ∷ []) ++ c.ignored_types)
+    → IsDistinct nat_eq ((c.rts ∷ c.cts ∷ c.ack ∷ c.nak ∷ []) ++ c.ignored_codes) → AreDistinct c
 unfolding IsDistinct
 distinct_of c four types codes = record {
   full_partial = types.0.0;
@@ -87,4 +90,6 @@ distinct_of c four types codes = record {
 }
 
 pub distinct : (p : Contents) → IsProfile p → AreDistinct p.codes
-distinct p is = distinct_of p.codes (four_differ p.codes.partial_codes (in_range p is).partial_count (partial_codes_differ p is)) (types_differ p is) (codes_differ p is)
+distinct p is =
+    distinct_of p.codes (four_differ p.codes.partial_codes (in_range p is).partial_count (partial_codes_differ p is)) (types_differ p is)
+    (codes_differ p is)

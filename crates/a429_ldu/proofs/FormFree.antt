@@ -37,7 +37,8 @@ is_free-decides c b w =
     let upper = number_at w 25 4 in
     Decides-or _ _ (Decides-not _ (Decides-eqb (count_of_ones w % 2) 1))
     (Decides-or _ _ (Decides-not _ (Decides-eqb (label_of w) (address_of c b)))
-    (Decides-or _ _ (Decides-contains kind c.ignored_types) (Decides-and _ _ (Decides-eqb kind c.protocol) (Decides-contains upper c.ignored_codes))))
+    (Decides-or _ _ (Decides-contains kind c.ignored_types)
+    (Decides-and _ _ (Decides-eqb kind c.protocol) (Decides-contains upper c.ignored_codes))))
 
 -- ---- a word of the table is not free
 
@@ -50,10 +51,13 @@ abbrev is_ignored : Codes → Fields → Bool
 is_ignored c f = list_any (λ n. n == f.kind) c.ignored_types || (f.kind == c.protocol && list_any (λ n. n == f.upper) c.ignored_codes)
 
 type_kept : (c : Codes) (f : Fields) → IsNone f.kind c.ignored_types → nat_eq f.kind c.protocol ≡ false → is_ignored c f ≡ false
-type_kept c f none other = or_from (list_any (λ n. n == f.kind) c.ignored_types) _ (none_any f.kind c.ignored_types none) (and_left (f.kind == c.protocol) _ other)
+type_kept c f none other =
+    or_from (list_any (λ n. n == f.kind) c.ignored_types) _ (none_any f.kind c.ignored_types none) (and_left (f.kind == c.protocol) _ other)
 
 code_kept : (c : Codes) (f : Fields) → IsNone f.kind c.ignored_types → IsNone f.upper c.ignored_codes → is_ignored c f ≡ false
-code_kept c f kind code = or_from (list_any (λ n. n == f.kind) c.ignored_types) _ (none_any f.kind c.ignored_types kind) (and_right (f.kind == c.protocol) _ (none_any f.upper c.ignored_codes code))
+code_kept c f kind code =
+    or_from (list_any (λ n. n == f.kind) c.ignored_types) _ (none_any f.kind c.ignored_types kind)
+    (and_right (f.kind == c.protocol) _ (none_any f.upper c.ignored_codes code))
 
 data_kept : (c : Codes) → AreDistinct c → (semis : List ℕ) → AreSemis semis → is_ignored c (data_row c semis) ≡ false
 data_kept c d [] h = absurd (omega (arith, h.0))
@@ -74,15 +78,20 @@ row_kept c d (Part semis) h = data_kept c d semis h
 row_kept c d (Eot flags check) h = type_kept c (row c (Eot flags check)) d.eot_kept (turned c.protocol c.eot d.protocol_eot)
 
 -- a word of good parity with the label of its bus is not free where it is not ignored
-not_free : (c : Codes) (b : Bus) (w : ℕ) (f : Fields) → HasOddParity w → label_of w ≡ address_of c b → fields_of w ≡ f → is_ignored c f ≡ false → is_free c b w ≡ false
+not_free : (c : Codes) (b : Bus) (w : ℕ) (f : Fields)
+    → HasOddParity w → label_of w ≡ address_of c b → fields_of w ≡ f → is_ignored c f ≡ false → is_free c b w ≡ false
 not_free c b w f parity label fields kept =
     or_from (not (count_of_ones w % 2 == 1)) _ (not_from_true _ (eq-eqb (count_of_ones w % 2) 1 parity))
-    (or_from (not (label_of w == address_of c b)) _ (not_from_true _ (eq-eqb (label_of w) (address_of c b) label)) (ap (is_ignored c) fields ∙ kept))
+    (or_from (not (label_of w == address_of c b)) _ (not_from_true _ (eq-eqb (label_of w) (address_of c b) label))
+    (ap (is_ignored c) fields ∙ kept))
 
 pub form_not_free : (c : Codes) (b : Bus) (w : ℕ) (x : Form) → AreDistinct c → IsForm c b w x → is_free c b w ≡ false
 form_not_free c b w x d h = not_free c b w (row c x) h.parity h.label h.fields (row_kept c d x h.range)
 
 -- a full word is not free
-pub full_not_free : (c : Codes) (b : Bus) (w : ℕ) (f : Fields) → AreDistinct c → HasOddParity w → label_of w ≡ address_of c b → fields_of w ≡ f → f.kind ≡ c.full → is_free c b w ≡ false
+pub full_not_free : (c : Codes) (b : Bus) (w : ℕ) (f : Fields)
+    → AreDistinct c → HasOddParity w → label_of w ≡ address_of c b → fields_of w ≡ f → f.kind ≡ c.full → is_free c b w ≡ false
 full_not_free c b w f d parity label fields kind =
-    not_free c b w f parity label fields (type_kept c f (subst (λ (n : ℕ). IsNone n c.ignored_types) (sym kind) d.full_kept) (ap (λ n. nat_eq n c.protocol) kind ∙ d.full_protocol))
+    not_free c b w f parity label fields
+    (type_kept c f (subst (λ (n : ℕ). IsNone n c.ignored_types) (sym kind) d.full_kept)
+    (ap (λ n. nat_eq n c.protocol) kind ∙ d.full_protocol))

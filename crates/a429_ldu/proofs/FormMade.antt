@@ -8,7 +8,8 @@ use Rattle.a429_ldu.specs.Form.{Fields, fields_of, label_bits, joined_fields, wi
 use Rattle.a429_ldu.proofs.FormTests.{AreSmall, alike}
 
 pub small_fields : (w : ℕ) → AreSmall (fields_of w)
-small_fields w = record { kind = number_at-lt w 28 3; upper = number_at-lt w 24 4; middle = number_at-lt w 16 8; lower = number_at-lt w 8 8 }
+small_fields w =
+    record { kind = number_at-lt w 28 3; upper = number_at-lt w 24 4; middle = number_at-lt w 16 8; lower = number_at-lt w 8 8 }
 
 -- ---- label and fields of a word that is put together
 
@@ -33,16 +34,20 @@ IsPut w t b f = w ≡ b + f.lower * 256 + f.middle * 65536 + f.upper * 16777216 
 put_low : (w t b k u m l : ℕ) → b < 256 → w ≡ b + l * 256 + m * 65536 + u * 16777216 + k * 268435456 + t * 2147483648 → w % 256 ≡ b
 put_low w t b k u m l hb e = omega arith
 
-put_lower : (w t b k u m l : ℕ) → b < 256 → l < 256 → w ≡ b + l * 256 + m * 65536 + u * 16777216 + k * 268435456 + t * 2147483648 → w / 256 % 256 ≡ l
+put_lower : (w t b k u m l : ℕ)
+    → b < 256 → l < 256 → w ≡ b + l * 256 + m * 65536 + u * 16777216 + k * 268435456 + t * 2147483648 → w / 256 % 256 ≡ l
 put_lower w t b k u m l hb hl e = omega arith
 
-put_middle : (w t b k u m l : ℕ) → b < 256 → l < 256 → m < 256 → w ≡ b + l * 256 + m * 65536 + u * 16777216 + k * 268435456 + t * 2147483648 → w / 65536 % 256 ≡ m
+put_middle : (w t b k u m l : ℕ)
+    → b < 256 → l < 256 → m < 256 → w ≡ b + l * 256 + m * 65536 + u * 16777216 + k * 268435456 + t * 2147483648 → w / 65536 % 256 ≡ m
 put_middle w t b k u m l hb hl hm e = omega arith
 
-put_upper : (w t b k u m l : ℕ) → b < 256 → l < 256 → m < 256 → u < 16 → w ≡ b + l * 256 + m * 65536 + u * 16777216 + k * 268435456 + t * 2147483648 → w / 16777216 % 16 ≡ u
+put_upper : (w t b k u m l : ℕ) → b < 256 → l < 256 → m < 256 → u < 16
+    → w ≡ b + l * 256 + m * 65536 + u * 16777216 + k * 268435456 + t * 2147483648 → w / 16777216 % 16 ≡ u
 put_upper w t b k u m l hb hl hm hu e = omega arith
 
-put_kind : (w t b k u m l : ℕ) → b < 256 → l < 256 → m < 256 → u < 16 → k < 8 → w ≡ b + l * 256 + m * 65536 + u * 16777216 + k * 268435456 + t * 2147483648 → w / 268435456 % 8 ≡ k
+put_kind : (w t b k u m l : ℕ) → b < 256 → l < 256 → m < 256 → u < 16 → k < 8
+    → w ≡ b + l * 256 + m * 65536 + u * 16777216 + k * 268435456 + t * 2147483648 → w / 268435456 % 8 ≡ k
 put_kind w t b k u m l hb hl hm hu hk e = omega arith
 
 fields_read : (w t b : ℕ) (f : Fields) → b < 256 → AreSmall f → IsPut w t b f → fields_of w ≡ f
@@ -61,7 +66,8 @@ pub record HasPut (w l : ℕ) (f : Fields) : Type 0 where
   pub parity : HasOddParity w
   pub word : w < 2 ^ 32
 
-joined-lt : (b k u m l : ℕ) → b < 256 → l < 256 → m < 256 → u < 16 → k < 8 → b + l * 256 + m * 65536 + u * 16777216 + k * 268435456 < 2147483648
+joined-lt : (b k u m l : ℕ)
+    → b < 256 → l < 256 → m < 256 → u < 16 → k < 8 → b + l * 256 + m * 65536 + u * 16777216 + k * 268435456 < 2147483648
 joined-lt b k u m l hb hl hm hu hk = omega arith
 
 below_top : (n t : ℕ) → n < 2147483648 → t ≤ 1 → n + t * 2147483648 < 4294967296
@@ -90,7 +96,8 @@ sdi_from w l e = omega arith
 ssm_from : (w k : ℕ) → w / 268435456 % 8 ≡ k → w / 536870912 % 4 ≡ k / 2
 ssm_from w k e = omega arith
 
-field_from : (w k u m l : ℕ) → w / 268435456 % 8 ≡ k → w / 16777216 % 16 ≡ u → w / 65536 % 256 ≡ m → w / 256 % 256 ≡ l → w / 1024 % 524288 ≡ k % 2 * 262144 + u * 16384 + m * 64 + l / 4
+field_from : (w k u m l : ℕ) → w / 268435456 % 8 ≡ k → w / 16777216 % 16 ≡ u → w / 65536 % 256 ≡ m → w / 256 % 256 ≡ l
+    → w / 1024 % 524288 ≡ k % 2 * 262144 + u * 16384 + m * 64 + l / 4
 field_from w k u m l ek eu em el = omega arith
 
 sdi_is : (w : ℕ) → sdi_of w ≡ (fields_of w).lower % 4
@@ -103,7 +110,8 @@ abbrev field_in : Fields → ℕ
 field_in f = f.kind % 2 * 262144 + f.upper * 16384 + f.middle * 64 + f.lower / 4
 
 field_is : (w : ℕ) → field_of w ≡ field_in (fields_of w)
-field_is w = number_at-is w 10 19 ∙ field_from w _ _ _ _ (sym (number_at-is w 28 3)) (sym (number_at-is w 24 4)) (sym (number_at-is w 16 8)) (sym (number_at-is w 8 8))
+field_is w = number_at-is w 10 19
+    ∙ field_from w _ _ _ _ (sym (number_at-is w 28 3)) (sym (number_at-is w 24 4)) (sym (number_at-is w 16 8)) (sym (number_at-is w 8 8))
 
 pub one_put : (v w l : ℕ) (f : Fields) → HasPut v l f → HasPut w l f → v ≡ w
 one_put v w l f h k =

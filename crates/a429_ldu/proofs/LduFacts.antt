@@ -26,7 +26,8 @@ same_check k bs check h e = by k.compare e h
     by true _ t = eqb-true check (check_of k bs) t
     by false n _ = cc
 
-pub made : (p : Contents) (gfi flags check : ℕ) (ws us bs : List ℕ) → gfi ≤ 15 → flags ≤ 15 → check ≤ 65535 → HasLength ws → us ≡ ws → bytes_carried p.codes ws ≡ Some bs → agrees p.check bs check ≡ true →
+pub made : (p : Contents) (gfi flags check : ℕ) (ws us bs : List ℕ)
+    → gfi ≤ 15 → flags ≤ 15 → check ≤ 65535 → HasLength ws → us ≡ ws → bytes_carried p.codes ws ≡ Some bs → agrees p.check bs check ≡ true →
     IsLdu p (record { gfi = gfi; flags = flags; check = check; words = us })
 made p gfi flags check ws us bs hg hf hc size eu carries h = record {
   gfi = hg;
@@ -42,7 +43,8 @@ unit_bytes : (p : Contents) (u : LduValue) (h : IsLdu p u) → bytes_of p.codes 
 unit_bytes p u h = ap (λ o. unwrap_or o []) h.carries
 
 -- a link data unit has 1 to 632 bytes
-pub few_bytes : (p : Contents) (u : LduValue) → IsProfile p → IsLdu p u → (1 ≤ length (bytes_of p.codes u)) × (length (bytes_of p.codes u) ≤ 632)
+pub few_bytes : (p : Contents) (u : LduValue)
+    → IsProfile p → IsLdu p u → (1 ≤ length (bytes_of p.codes u)) × (length (bytes_of p.codes u) ≤ 632)
 few_bytes p u is h =
     let carries = carries_of p is u.words h.bytes h.carries in
     let most = carried-most p.codes u.words h.bytes carries in
@@ -68,7 +70,8 @@ no_fault p u CheckWrong is h fault =
 no_fault p u OutOfMemory is h fault = fault
 
 -- there is one first fault
-pub one_fault : (p : Contents) (check : ℕ) (ws : List ℕ) (f g : LduFault) → IsFirstLduFault p check ws f → IsFirstLduFault p check ws g → f ≡ g
+pub one_fault : (p : Contents) (check : ℕ) (ws : List ℕ) (f g : LduFault)
+    → IsFirstLduFault p check ws f → IsFirstLduFault p check ws g → f ≡ g
 one_fault p check ws Count Count h k = refl
 one_fault p check ws Count NotBytes h k = absurd (h k.0)
 one_fault p check ws Count CheckWrong h k = absurd (h k.0)

@@ -29,7 +29,9 @@ form_in-sight_in None = refl
 pub form_of-sight : (c : Codes) (b : Bus) (w : ℕ) → form_in (sight_of c b w) ≡ form_of c b w
 form_of-sight c b w = by_test (is_free c b w)
   where
-    by_test : (t : Bool) → form_in (cond t sight.Free (sight_in (cond (t || nat_le (2 ^ 32) w) None (form_on c b (fields_of w))))) ≡ cond (t || nat_le (2 ^ 32) w) None (form_on c b (fields_of w))
+    by_test : (t : Bool)
+        → form_in (cond t sight.Free (sight_in (cond (t || nat_le (2 ^ 32) w) None (form_on c b (fields_of w)))))
+        ≡ cond (t || nat_le (2 ^ 32) w) None (form_on c b (fields_of w))
     by_test true = refl
     by_test false = form_in-sight_in _
 
@@ -76,7 +78,8 @@ pub sees_of : (p : Contents) → IsProfile p → (b : Bus) (w : ℕ) (c : Codes)
 sees_of p is b w c r ec er = subst (λ (s : Sight). Sees p b w s) (sym (er ∙ ap (λ d. sight_of d b w) ec)) (sees p is b w)
 
 -- a word is what the tests on it say
-sight_tested : (c : Codes) (b : Bus) (w : ℕ) (f : Fields) (t : Bool) → w < 2 ^ 32 → fields_of w ≡ f → Decides t (IsFree c b w) → cond t sight.Free (sight_in (form_on c b f)) ≡ sight_of c b w
+sight_tested : (c : Codes) (b : Bus) (w : ℕ) (f : Fields) (t : Bool)
+    → w < 2 ^ 32 → fields_of w ≡ f → Decides t (IsFree c b w) → cond t sight.Free (sight_in (form_on c b f)) ≡ sight_of c b w
 sight_tested c b w f t word fields decides =
     rw (← fields, ← same_from_decides (is_free c b w) t (is_free-decides c b w) decides) (by_test (is_free c b w))
   where
@@ -84,17 +87,21 @@ sight_tested c b w f t word fields decides =
     by_test true = refl
     by_test false = rw (lt-leb (2 ^ 32) w word) refl
 
-pub seen_free : (c : Codes) (b : Bus) (w : ℕ) (f : Fields) (t : Bool) → w < 2 ^ 32 → fields_of w ≡ f → Decides t (IsFree c b w) → t ≡ true → sight.Free ≡ sight_of c b w
+pub seen_free : (c : Codes) (b : Bus) (w : ℕ) (f : Fields) (t : Bool)
+    → w < 2 ^ 32 → fields_of w ≡ f → Decides t (IsFree c b w) → t ≡ true → sight.Free ≡ sight_of c b w
 seen_free c b w f t word fields decides e = sym (ap (λ u. told u (form_on c b f)) e) ∙ sight_tested c b w f t word fields decides
 
-pub seen_told : (c : Codes) (b : Bus) (w : ℕ) (f : Fields) (t : Bool) (o : Option Form) → w < 2 ^ 32 → fields_of w ≡ f → Decides t (IsFree c b w) → t ≡ false → o ≡ form_on c b f → sight_in o ≡ sight_of c b w
-seen_told c b w f t o word fields decides e eo = ap sight_in eo ∙ sym (ap (λ u. told u (form_on c b f)) e) ∙ sight_tested c b w f t word fields decides
+pub seen_told : (c : Codes) (b : Bus) (w : ℕ) (f : Fields) (t : Bool) (o : Option Form)
+    → w < 2 ^ 32 → fields_of w ≡ f → Decides t (IsFree c b w) → t ≡ false → o ≡ form_on c b f → sight_in o ≡ sight_of c b w
+seen_told c b w f t o word fields decides e eo =
+    ap sight_in eo ∙ sym (ap (λ u. told u (form_on c b f)) e) ∙ sight_tested c b w f t word fields decides
 
 pub form_of_kept : (c : Codes) (b : Bus) (w : ℕ) → w < 2 ^ 32 → is_free c b w ≡ false → form_of c b w ≡ form_on c b (fields_of w)
 form_of_kept c b w word free = rw (free, lt-leb (2 ^ 32) w word) refl
 
 -- a word of good parity with the label of its bus that has a form is not ignored
-pub seen_form : (p : Contents) → IsProfile p → (c : Codes) → c ≡ p.codes → (b : Bus) (w : ℕ) (f : Fields) (x : Form) → HasOddParity w × (label_of w ≡ address_of c b) → w < 2 ^ 32 → fields_of w ≡ f → form_on c b f ≡ Some x → sight.Form x ≡ sight_of c b w
+pub seen_form : (p : Contents) → IsProfile p → (c : Codes) → c ≡ p.codes → (b : Bus) (w : ℕ) (f : Fields) (x : Form)
+    → HasOddParity w × (label_of w ≡ address_of c b) → w < 2 ^ 32 → fields_of w ≡ f → form_on c b f ≡ Some x → sight.Form x ≡ sight_of c b w
 seen_form p is c ec b w f x at word fields e =
     let found = ap (form_on c b) fields ∙ e in
     let free = form_not_free c b w x (subst AreDistinct (sym ec) (distinct p is)) (told_form c b w x at word found) in
@@ -133,15 +140,20 @@ full_form_of p c b w f is = form_of_kept c b w is.word (full_free p c b w f is) 
 
 full_sight : (p : Contents) (c : Codes) (b : Bus) (w : ℕ) (f : Fields) → IsFull p c b w f → sight_in (form_on c b f) ≡ sight_of p.codes b w
 full_sight p c b w f is =
-    ap sight_in (sym (full_form_of p c b w f is)) ∙ sym (ap (λ u. told u (form_of c b w)) (full_free p c b w f is)) ∙ ap (λ k. sight_of k b w) is.codes
+    ap sight_in (sym (full_form_of p c b w f is)) ∙ sym (ap (λ u. told u (form_of c b w)) (full_free p c b w f is))
+    ∙ ap (λ k. sight_of k b w) is.codes
 
-pub seen_full_a : (p : Contents) (c : Codes) (b : Bus) (w : ℕ) (f : Fields) → IsFull p c b w f → b ≡ bus.A → sight.Form (Part (five f)) ≡ sight_of p.codes b w
+pub seen_full_a : (p : Contents) (c : Codes) (b : Bus) (w : ℕ) (f : Fields)
+    → IsFull p c b w f → b ≡ bus.A → sight.Form (Part (five f)) ≡ sight_of p.codes b w
 seen_full_a p c b w f is e =
-    ap sight_in (sym (full_on_a c f (full_distinct p c b w f is) is.kind)) ∙ ap (λ a. sight_in (form_on c a f)) (sym e) ∙ full_sight p c b w f is
+    ap sight_in (sym (full_on_a c f (full_distinct p c b w f is) is.kind)) ∙ ap (λ a. sight_in (form_on c a f)) (sym e)
+    ∙ full_sight p c b w f is
 
-pub seen_full_b : (p : Contents) (c : Codes) (b : Bus) (w : ℕ) (f : Fields) → IsFull p c b w f → b ≡ bus.B → sight.NoForm ≡ sight_of p.codes b w
+pub seen_full_b : (p : Contents) (c : Codes) (b : Bus) (w : ℕ) (f : Fields)
+    → IsFull p c b w f → b ≡ bus.B → sight.NoForm ≡ sight_of p.codes b w
 seen_full_b p c b w f is e =
-    ap sight_in (sym (full_on_b c f (full_distinct p c b w f is) is.kind)) ∙ ap (λ a. sight_in (form_on c a f)) (sym e) ∙ full_sight p c b w f is
+    ap sight_in (sym (full_on_b c f (full_distinct p c b w f is) is.kind)) ∙ ap (λ a. sight_in (form_on c a f)) (sym e)
+    ∙ full_sight p c b w f is
 
 -- the semi-octets of a full word, from its bits 9 to 28
 five-same : (n : ℕ) → n < 2 ^ 20 → five (record { kind = 0; upper = n / 65536; middle = n / 256 % 256; lower = n % 256 }) ≡ five_of n
@@ -153,7 +165,9 @@ five-same n h =
     let last : n / 65536 ≡ n / 65536 % 16 = omega arith in
     rw (low, second, third, fourth, ← last) refl
 
-pub full_semis : (p : Contents) (c : Codes) (w n : ℕ) → n < 2 ^ 20 → IsFull p c bus.A w (record { kind = c.full; upper = n / 65536; middle = n / 256 % 256; lower = n % 256 }) → semis_in (form_of p.codes bus.A w) ≡ Some (five_of n)
+pub full_semis : (p : Contents) (c : Codes) (w n : ℕ)
+    → n < 2 ^ 20 → IsFull p c bus.A w (record { kind = c.full; upper = n / 65536; middle = n / 256 % 256; lower = n % 256 })
+    → semis_in (form_of p.codes bus.A w) ≡ Some (five_of n)
 full_semis p c w n h is =
     ap (λ k. semis_in (form_of k bus.A w)) (sym is.codes) ∙ ap semis_in (full_form_of p c bus.A w _ is)
     ∙ ap semis_in (full_on_a c _ (full_distinct p c bus.A w _ is) is.kind) ∙ ap Some (five-same n h)
@@ -164,7 +178,8 @@ full_semis p c w n h is =
 abbrev pub IsIgnored : Codes → Fields → Type 0
 IsIgnored c f = Contains c.ignored_types f.kind ⊎ ((f.kind ≡ c.protocol) × Contains c.ignored_codes f.upper)
 
-pub ignored_free : (c : Codes) (b : Bus) (w : ℕ) (f : Fields) (t : Bool) → HasOddParity w × (label_of w ≡ address_of c b) → fields_of w ≡ f → Decides t (IsIgnored c f) → Decides t (IsFree c b w)
+pub ignored_free : (c : Codes) (b : Bus) (w : ℕ) (f : Fields) (t : Bool)
+    → HasOddParity w × (label_of w ≡ address_of c b) → fields_of w ≡ f → Decides t (IsIgnored c f) → Decides t (IsFree c b w)
 ignored_free c b w f t at fields decides =
     let here = subst (λ (g : Fields). Decides t (IsIgnored c g)) (sym fields) decides in (
       λ e. inr (inr (here.0 e)),

@@ -27,7 +27,8 @@ pub data-append : (c : Codes) (xs ys : List ℕ) → data_words c (xs ++ ys) ≡
 data-append c [] ys = refl
 data-append c (x ∷ xs) ys = by (form_of c bus.A x) (data-append c xs ys)
   where
-    by : (o : Option Form) → data_words c (xs ++ ys) ≡ data_words c xs ++ data_words c ys → data_first x o (data_words c (xs ++ ys)) ≡ data_first x o (data_words c xs) ++ data_words c ys
+    by : (o : Option Form) → data_words c (xs ++ ys) ≡ data_words c xs ++ data_words c ys
+        → data_first x o (data_words c (xs ++ ys)) ≡ data_first x o (data_words c xs) ++ data_words c ys
     by (Some (form.Part s)) e = ap (λ (l : List ℕ). x ∷ l) e
     by _ e = e
 
@@ -36,13 +37,15 @@ sub_data : (c : Codes) (xs ys : List ℕ) → IsSubsequenceOf xs ys → IsSubseq
 sub_data c xs [] h = ap (data_words c) h
 sub_data c xs (y ∷ ys) (inl h) = by (form_of c bus.A y) (sub_data c xs ys h)
   where
-    by : (o : Option Form) → IsSubsequenceOf (data_words c xs) (data_words c ys) → IsSubsequenceOf (data_words c xs) (data_first y o (data_words c ys))
+    by : (o : Option Form)
+        → IsSubsequenceOf (data_words c xs) (data_words c ys) → IsSubsequenceOf (data_words c xs) (data_first y o (data_words c ys))
     by (Some (form.Part s)) h = inl h
     by _ h = h
 sub_data c xs (y ∷ ys) (inr (zs, e, h)) =
     subst (λ (l : List ℕ). IsSubsequenceOf (data_words c l) (data_words c (y ∷ ys))) (sym e) (by (form_of c bus.A y) (sub_data c zs ys h))
   where
-    by : (o : Option Form) → IsSubsequenceOf (data_words c zs) (data_words c ys) → IsSubsequenceOf (data_first y o (data_words c zs)) (data_first y o (data_words c ys))
+    by : (o : Option Form) → IsSubsequenceOf (data_words c zs) (data_words c ys)
+        → IsSubsequenceOf (data_first y o (data_words c zs)) (data_first y o (data_words c ys))
     by (Some (form.Part s)) h = inr (data_words c zs, refl, h)
     by _ h = h
 
@@ -61,17 +64,21 @@ first_end w f c _ rest e = absurd (cc e)
 
 data_parts : (p : Contents) (ws : List ℕ) → AllParts p ws → data_words p.codes ws ≡ ws
 data_parts p [] h = refl
-data_parts p (w ∷ ws) h = first_part w (form_of p.codes bus.A w) (data_words p.codes ws) h.0 ∙ ap (λ (l : List ℕ). w ∷ l) (data_parts p ws h.1)
+data_parts p (w ∷ ws) h =
+    first_part w (form_of p.codes bus.A w) (data_words p.codes ws) h.0 ∙ ap (λ (l : List ℕ). w ∷ l) (data_parts p ws h.1)
 
 -- those of a block are those of its link data unit
-data_block : (p : Contents) → IsRead p → (u : LduValue) (n : UnitNumber) → IsLdu p u → n.file ≤ 255 → n.ldu ≤ 255 → data_words p.codes (block_of p.codes u n.file n.ldu) ≡ u.words
+data_block : (p : Contents) → IsRead p → (u : LduValue) (n : UnitNumber) → IsLdu p u → n.file ≤ 255 → n.ldu ≤ 255
+    → data_words p.codes (block_of p.codes u n.file n.ldu) ≡ u.words
 data_block p good u n is file ldu =
     let f = good.fit u is in
     let s = word_number p.codes (form.Sot u.gfi n.file n.ldu) in
     let e = word_number p.codes (form.Eot u.flags u.check) in
-    first_start s u.gfi n.file n.ldu (form_of p.codes bus.A s) (data_words p.codes (u.words ++ e ∷ [])) (good.reads bus.A (Sot u.gfi n.file n.ldu) (f.gfi, file, ldu))
+    first_start s u.gfi n.file n.ldu (form_of p.codes bus.A s) (data_words p.codes (u.words ++ e ∷ []))
+    (good.reads bus.A (Sot u.gfi n.file n.ldu) (f.gfi, file, ldu))
     ∙ data-append p.codes u.words (e ∷ [])
-    ∙ ap (λ (l : List ℕ). data_words p.codes u.words ++ l) (first_end e u.flags u.check (form_of p.codes bus.A e) [] (good.reads bus.A (end_message u) (f.flags, f.check)))
+    ∙ ap (λ (l : List ℕ). data_words p.codes u.words ++ l)
+    (first_end e u.flags u.check (form_of p.codes bus.A e) [] (good.reads bus.A (end_message u) (f.flags, f.check)))
     ∙ append-nil (data_words p.codes u.words)
     ∙ data_parts p u.words f.parts
 
@@ -100,7 +107,8 @@ sends_grown p None a c b e (inl h) = inl h
 sends_grown p None a c b e (inr h) = inr (h ∙ e)
 sends_grown p (Some t) a c b e h = h
 
-last_sends : (p : Contents) (now : Option Assigned) (a : Attempt) (items : List Seen) (units : List Assigned) → IsSoundIf p now → GoOnAssigned p now (attempts_from p a items) units → SendsAfter p now a (latest_from p a items)
+last_sends : (p : Contents) (now : Option Assigned) (a : Attempt) (items : List Seen) (units : List Assigned)
+    → IsSoundIf p now → GoOnAssigned p now (attempts_from p a items) units → SendsAfter p now a (latest_from p a items)
 last_sends p None a [] units s h = inr refl
 last_sends p (Some t) a [] units s h = record { as_unit = t; sound = s; is = h.0.0 }
 last_sends p now a (i ∷ items) units s h = by (asks i.bus (form_of p.codes i.bus i.word)) (λ o c us k g. last_sends p o c items us k g) h
@@ -108,15 +116,22 @@ last_sends p now a (i ∷ items) units s h = by (asks i.bus (form_of p.codes i.b
     next : Attempt
     next = grown i.bus i.word (form_of p.codes i.bus i.word) a
 
-    by : (o : Option ℕ) → ((t : Option Assigned) (c : Attempt) (us : List Assigned) → IsSoundIf p t → GoOnAssigned p t (attempts_from p c items) us → SendsAfter p t c (latest_from p c items)) → GoOnAssigned p now (goes_on_to i (form_of p.codes i.bus i.word) a o (λ b. attempts_from p b items)) units → SendsAfter p now a (latest_from p (under_way o next) items)
-    by None rec h = sends_grown p now a next (latest_from p next items) (grown_count i.bus i.word (form_of p.codes i.bus i.word) a) (rec now next units s h)
+    by : (o : Option ℕ)
+        → ((t : Option Assigned) (c : Attempt) (us : List Assigned) → IsSoundIf p t → GoOnAssigned p t (attempts_from p c items) us
+        → SendsAfter p t c (latest_from p c items))
+        → GoOnAssigned p now (goes_on_to i (form_of p.codes i.bus i.word) a o (λ b. attempts_from p b items)) units
+        → SendsAfter p now a (latest_from p (under_way o next) items)
+    by None rec h =
+        sends_grown p now a next (latest_from p next items) (grown_count i.bus i.word (form_of p.codes i.bus i.word) a)
+        (rec now next units s h)
     by (Some n) rec h =
         let o = open_assigned p now (is_some a.acked) (attempts_from p (fresh n) items) units (some_attempts p (fresh n) items) h.1 in
         sends_now p now a (latest_from p (fresh n) items) (rec (Some o.assigned_as) (fresh n) o.more o.sound o.goes)
 
 -- ---- all data words
 
-all_carry : (p : Contents) → IsProfile p → IsRead p → (words : List ℕ) (a : Attempt) → data_words p.codes a.words ≡ words → Sends p a → AreHalf p.codes words a.count → ⊥
+all_carry : (p : Contents) → IsProfile p → IsRead p → (words : List ℕ) (a : Attempt) → data_words p.codes a.words ≡ words → Sends p a
+    → AreHalf p.codes words a.count → ⊥
 all_carry p sound good words a same s half =
     let t = s.as_unit in
     let low = good.first in
@@ -125,14 +140,18 @@ all_carry p sound good words a same s half =
     let asked = s.is.asked in
     let asked_too = half.0 in
     let of_block = sub_data p.codes a.words (block_of p.codes t.unit t.number.file t.number.ldu) s.is.words in
-    let of_unit = subst (λ (l : List ℕ). IsSubsequenceOf l t.unit.words) same (subst (IsSubsequenceOf (data_words p.codes a.words)) (data_block p good t.unit t.number s.sound.unit s.sound.file ldu) of_block) in
+    let of_unit =
+    subst (λ (l : List ℕ). IsSubsequenceOf l t.unit.words) same
+    (subst (IsSubsequenceOf (data_words p.codes a.words)) (data_block p good t.unit t.number s.sound.unit s.sound.file ldu) of_block) in
     let count : length words ≡ length t.unit.words = omega arith in
     let all = sub_all words t.unit.words count of_unit in
     let some = s.sound.unit.carries in
     let none : bytes_carried p.codes t.unit.words ≡ None = subst (λ (l : List ℕ). bytes_carried p.codes l ≡ None) all half.1 in
     cc (some, none)
 
-no_half_form : (p : Contents) → IsProfile p → IsRead p → (items : List Seen) (b : Bus) (w : ℕ) (x : Option Form) (a : Attempt) → form_of p.codes b w ≡ x → latest p (items ++ on b w ∷ []) ≡ under_way (asks b x) (grown b w x a) → BeginsARun p (items ++ on b w ∷ []) → IsHalfForm p.codes b w x a → ⊥
+no_half_form : (p : Contents) → IsProfile p → IsRead p → (items : List Seen) (b : Bus) (w : ℕ) (x : Option Form) (a : Attempt)
+    → form_of p.codes b w ≡ x → latest p (items ++ on b w ∷ []) ≡ under_way (asks b x) (grown b w x a) → BeginsARun p (items ++ on b w ∷ [])
+    → IsHalfForm p.codes b w x a → ⊥
 no_half_form p sound good items bus.A w (Some (form.Part s)) a q e run half =
     let r = run_assignable p good (items ++ on bus.A w ∷ []) run in
     by (last_sends p None (fresh 0) (items ++ on bus.A w ∷ []) r.units tt r.are)
@@ -148,11 +167,14 @@ no_half_form p sound good items bus.A w (Some (form.Part s)) a q e run half =
     by (inr h) = let none : a.count ≡ 0 = sym (ap (λ (b : Attempt). b.count) e) ∙ h in let asked = half.0 in omega arith
 no_half_form p sound good items _ w _ a q e run half = absurd half
 
-no_half_next : (p : Contents) → IsProfile p → IsRead p → (items : List Seen) (i : ℕ) (o : Option Seen) → slice_get items i ≡ o → IsHalfNext p (latest p (take i items)) o → BeginsARun p (take (suc i) items) → ⊥
+no_half_next : (p : Contents) → IsProfile p → IsRead p → (items : List Seen) (i : ℕ) (o : Option Seen) → slice_get items i ≡ o
+    → IsHalfNext p (latest p (take i items)) o → BeginsARun p (take (suc i) items) → ⊥
 no_half_next p sound good items i None e half run = half
 no_half_next p sound good items i (Some x) e half run =
-    no_half_form p sound good (take i items) x.bus x.word (form_of p.codes x.bus x.word) (latest p (take i items)) refl (latest_push p (take i items) x) (subst (BeginsARun p) (next_item i x items e) run) half
+    no_half_form p sound good (take i items) x.bus x.word (form_of p.codes x.bus x.word) (latest p (take i items)) refl
+    (latest_push p (take i items) x) (subst (BeginsARun p) (next_item i x items e) run) half
 
 -- no run records all data words of a block that carry no bytes
-pub no_half : (p : Contents) → IsProfile p → IsRead p → (items : List Seen) (i : ℕ) → IsHalfAt p items i → BeginsARun p (take (suc i) items) → ⊥
+pub no_half : (p : Contents)
+    → IsProfile p → IsRead p → (items : List Seen) (i : ℕ) → IsHalfAt p items i → BeginsARun p (take (suc i) items) → ⊥
 no_half p sound good items i half run = no_half_next p sound good items i (slice_get items i) refl half run

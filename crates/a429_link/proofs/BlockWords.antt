@@ -37,26 +37,32 @@ pub data InBlock (p : Contents) (u : LduValue) (n : UnitNumber) (w : ℕ) : Type
   is_part : message_of p bus.A w ≡ Some (Part w) → InBlock p u n w
   is_end : w ≡ word_number p.codes (form.Eot u.flags u.check) → InBlock p u n w
 
-parts_or_end : (p : Contents) (u : LduValue) (n : UnitNumber) (w : ℕ) (ws : List ℕ) → AllParts p ws → IsIn w (ws ++ word_number p.codes (form.Eot u.flags u.check) ∷ []) → InBlock p u n w
+parts_or_end : (p : Contents) (u : LduValue) (n : UnitNumber) (w : ℕ) (ws : List ℕ)
+    → AllParts p ws → IsIn w (ws ++ word_number p.codes (form.Eot u.flags u.check) ∷ []) → InBlock p u n w
 parts_or_end p u n w [] h (inl e) = is_end e
 parts_or_end p u n w [] h (inr i) = absurd i
 parts_or_end p u n w (v ∷ ws) h (inl e) = is_part (subst (λ x. message_of p bus.A x ≡ Some (Part x)) (sym e) h.0)
 parts_or_end p u n w (v ∷ ws) h (inr i) = parts_or_end p u n w ws h.1 i
 
-pub in_block : (p : Contents) → IsRead p → (u : LduValue) (n : UnitNumber) (w : ℕ) → IsLdu p u → IsIn w (block_of p.codes u n.file n.ldu) → InBlock p u n w
+pub in_block : (p : Contents)
+    → IsRead p → (u : LduValue) (n : UnitNumber) (w : ℕ) → IsLdu p u → IsIn w (block_of p.codes u n.file n.ldu) → InBlock p u n w
 in_block p good u n w is (inl e) = is_start e
 in_block p good u n w is (inr i) = parts_or_end p u n w u.words (good.fit u is).parts i
 
 -- a word with a form says this
-said_start : (p : Contents) (n : UnitNumber) (w : ℕ) (o : Option Form) → IsStartOf n o → (g : ℕ) × (message_in w o ≡ Some (Sot g n.file n.ldu)) × (o ≡ Some (form.Sot g n.file n.ldu))
-said_start p n w (Some (form.Sot g f l)) h = (g, ap (λ (m : UnitNumber). Some (Sot g m.file m.ldu)) h, ap (λ (m : UnitNumber). Some (form.Sot g m.file m.ldu)) h)
+said_start : (p : Contents) (n : UnitNumber) (w : ℕ) (o : Option Form)
+    → IsStartOf n o → (g : ℕ) × (message_in w o ≡ Some (Sot g n.file n.ldu)) × (o ≡ Some (form.Sot g n.file n.ldu))
+said_start p n w (Some (form.Sot g f l)) h =
+    (g, ap (λ (m : UnitNumber). Some (Sot g m.file m.ldu)) h, ap (λ (m : UnitNumber). Some (form.Sot g m.file m.ldu)) h)
 said_start p n w _ h = absurd h
 
-end_says : (p : Contents) → IsRead p → (u : LduValue) → IsLdu p u → message_of p bus.A (word_number p.codes (form.Eot u.flags u.check)) ≡ Some (end_message u)
+end_says : (p : Contents)
+    → IsRead p → (u : LduValue) → IsLdu p u → message_of p bus.A (word_number p.codes (form.Eot u.flags u.check)) ≡ Some (end_message u)
 end_says p good u is = let f = good.fit u is in good.reads bus.A (end_message u) (f.flags, f.check)
 
 -- a start word in the block is its start word
-pub start_of_block : (p : Contents) → IsRead p → (u : LduValue) (n : UnitNumber) (w : ℕ) → IsLdu p u → IsStartOf n (form_of p.codes bus.A w) → IsIn w (block_of p.codes u n.file n.ldu) → w ≡ word_number p.codes (form.Sot u.gfi n.file n.ldu)
+pub start_of_block : (p : Contents) → IsRead p → (u : LduValue) (n : UnitNumber) (w : ℕ) → IsLdu p u → IsStartOf n (form_of p.codes bus.A w)
+    → IsIn w (block_of p.codes u n.file n.ldu) → w ≡ word_number p.codes (form.Sot u.gfi n.file n.ldu)
 start_of_block p good u n w is h i = by (in_block p good u n w is i)
   where
     by : InBlock p u n w → w ≡ word_number p.codes (form.Sot u.gfi n.file n.ldu)
@@ -67,7 +73,9 @@ start_of_block p good u n w is h i = by (in_block p good u n w is i)
         let t = ap (message_of p bus.A) e ∙ end_says p good u is in absurd (cc (s, t))
 
 -- an end word in the block is its end word
-pub end_of_block : (p : Contents) → IsProfile p → IsRead p → (u : LduValue) (n : UnitNumber) (v w flags check : ℕ) → IsLdu p u → IsStartOf n (form_of p.codes bus.A v) → form_of p.codes bus.A w ≡ Some (form.Eot flags check) → IsIn w (block_of p.codes u n.file n.ldu) → w ≡ word_number p.codes (form.Eot u.flags u.check)
+pub end_of_block : (p : Contents) → IsProfile p → IsRead p → (u : LduValue) (n : UnitNumber) (v w flags check : ℕ) → IsLdu p u
+    → IsStartOf n (form_of p.codes bus.A v) → form_of p.codes bus.A w ≡ Some (form.Eot flags check)
+    → IsIn w (block_of p.codes u n.file n.ldu) → w ≡ word_number p.codes (form.Eot u.flags u.check)
 end_of_block p sound good u n v w flags check is h e i = by (in_block p good u n w is i)
   where
     says : message_of p bus.A w ≡ Some (Eot flags check)

@@ -35,17 +35,20 @@ inside [] last (suc j) w e n = absurd (cc e)
 inside (v ∷ ws) last zero w e n = e
 inside (v ∷ ws) last (suc j) w e n = inside ws last j w e (λ q. n (ap suc q))
 
-data_word : (c : Codes) (ws : List ℕ) (semis : List (List ℕ)) (j w : ℕ) → AreDataWords c ws semis → slice_get ws j ≡ Some w → (s : List ℕ) × IsForm c A w (Part s)
+data_word : (c : Codes) (ws : List ℕ) (semis : List (List ℕ)) (j w : ℕ)
+    → AreDataWords c ws semis → slice_get ws j ≡ Some w → (s : List ℕ) × IsForm c A w (Part s)
 data_word c [] semis j w h e = absurd (cc e)
 data_word c (v ∷ ws) [] j w h e = absurd h
 data_word c (v ∷ ws) (s ∷ ss) zero w h e = (s, subst (λ x. IsForm c A x (Part s)) (some_is v w e) h.0)
 data_word c (v ∷ ws) (s ∷ ss) (suc j) w h e = data_word c ws ss j w h.1 e
 
-part_there : (p : Contents) (s : State) (u : LduValue) (k w : ℕ) → IsKept p s → s.source.current ≡ Some u → s.source.phase ≡ Sending k → 1 ≤ k → suc k < count_of u
+part_there : (p : Contents) (s : State) (u : LduValue) (k w : ℕ)
+    → IsKept p s → s.source.current ≡ Some u → s.source.phase ≡ Sending k → 1 ≤ k → suc k < count_of u
     → next_word_of p s.source ≡ Some w → (semis : List ℕ) × (form_of p.codes A w ≡ Some (Part semis))
 part_there p s u zero w kept current phase least more next = absurd (omega arith)
 part_there p s u (suc j) w kept current phase least more next =
-    let unit : Current p (Some u) s.source.number.ldu = subst (λ o. Current p o s.source.number.ldu) current (kept_holds p s kept).current in
+    let unit : Current p (Some u) s.source.number.ldu =
+    subst (λ o. Current p o s.source.number.ldu) current (kept_holds p s kept).current in
     let carries = carries_of p kept.sound u.words unit.2.bytes unit.2.carries in
     let place = rw (current, phase) at next in
     let here = inside u.words _ j w place (λ q. absurd (omega (arith, q, more))) in
@@ -67,7 +70,8 @@ in_one OwesNak coming k h = absurd h
 pub at_word : (p : Contents) (next : NextWord) (s : State) → IsKept p s → SendsNext p next s → IsAtWord p next s
 at_word p next s kept h =
     let one = in_one s.sink.phase s.to_sink next.place h.taken in
-    let part = part_there p s h.sends.unit next.place next.word kept h.sends.current h.sends.sending (omega (arith, one.2)) h.sends.more h.word in
+    let part =
+    part_there p s h.sends.unit next.place next.word kept h.sends.current h.sends.sending (omega (arith, one.2)) h.sends.more h.word in
     record {
       unit = h.sends.unit;
       block = one.0;
@@ -113,5 +117,6 @@ both_made p next s h = rw (h.to_sink, h.part) refl
 pub both_run : (p : Contents) (next : NextWord) (s : State) → IsAtWord p next s → IsRun p (sends_word next.word) s
 both_run p next s h = (can_send p next s h, (can_take p next s h, tt))
 
-pub kept_both : (p : Contents) (next : NextWord) (s : State) → IsKept p s → IsAtWord p next s → IsKept p (after_both p next.word s) × StaysBounded p (sends_word next.word) s
+pub kept_both : (p : Contents) (next : NextWord) (s : State)
+    → IsKept p s → IsAtWord p next s → IsKept p (after_both p next.word s) × StaysBounded p (sends_word next.word) s
 kept_both p next s kept h = kept_run p (sends_word next.word) s kept (both_run p next s h)

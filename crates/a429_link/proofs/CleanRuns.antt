@@ -60,20 +60,25 @@ joined_append (x ∷ xs) ys = ap (λ (l : List Step). x ++ l) (joined_append xs 
 abbrev pub at : ℕ → UnitNumber → Option LduValue → SourceState → Sink → State
 at g number cur sp k = record { source = source_at g number cur sp; sink = k; to_sink = []; to_source = [] }
 
-get_word : (p : Contents) (xs : List Message) (k : ℕ) (x : Message) → slice_get xs k ≡ Some x → slice_get (map (word_of p) xs) k ≡ Some (word_of p x)
+get_word : (p : Contents) (xs : List Message) (k : ℕ) (x : Message)
+    → slice_get xs k ≡ Some x → slice_get (map (word_of p) xs) k ≡ Some (word_of p x)
 get_word p [] k x e = absurd (cc e)
 get_word p (y ∷ xs) zero x e = let same : y ≡ x = cc in ap (λ z. Some (word_of p z)) same
 get_word p (y ∷ xs) (suc k) x e = get_word p xs k x e
 
-next_word_of_message : (p : Contents) (number : UnitNumber) (cur : Option LduValue) (sp : SourceState) (x : Message) → next_message number cur sp ≡ Some x → next_word p.codes number cur sp ≡ Some (word_of p x)
+next_word_of_message : (p : Contents) (number : UnitNumber) (cur : Option LduValue) (sp : SourceState) (x : Message)
+    → next_message number cur sp ≡ Some x → next_word p.codes number cur sp ≡ Some (word_of p x)
 next_word_of_message p number (Some u) Idle x e = let same : Rts (count_of u) ≡ x = cc in ap (λ z. Some (word_of p z)) same
-next_word_of_message p number (Some u) (Sending k) x e = subst (λ (l : List ℕ). slice_get l k ≡ Some (word_of p x)) (block_words p u number) (get_word p (block_messages u number) k x e)
+next_word_of_message p number (Some u) (Sending k) x e =
+    subst (λ (l : List ℕ). slice_get l k ≡ Some (word_of p x)) (block_words p u number) (get_word p (block_messages u number) k x e)
 next_word_of_message p number (Some u) Awaiting x e = absurd (cc e)
 next_word_of_message p number (Some u) Waiting x e = absurd (cc e)
 next_word_of_message p number None sp x e = absurd (cc e)
 
 -- a word of bus A is sent and taken
-word_goes : (p : Contents) (g : ℕ) (number : UnitNumber) (cur : Option LduValue) (sp : SourceState) (k : Sink) (x : Message) → next_message number cur sp ≡ Some x → Listens k.phase → message_of p bus.A (word_of p x) ≡ Some x → Goes p (sends_word (word_of p x)) (at g number cur sp k) (at g number cur (after_word cur sp) (takes_message p x k))
+word_goes : (p : Contents) (g : ℕ) (number : UnitNumber) (cur : Option LduValue) (sp : SourceState) (k : Sink) (x : Message)
+    → next_message number cur sp ≡ Some x → Listens k.phase → message_of p bus.A (word_of p x) ≡ Some x
+    → Goes p (sends_word (word_of p x)) (at g number cur sp k) (at g number cur (after_word cur sp) (takes_message p x k))
 word_goes p g number cur sp k x e l f = record {
   run = ((refl, next_word_of_message p number cur sp x e), ((tt, l), tt));
   ends = ap (λ q. at g number cur (after_word cur sp) q) (takes_as p (word_of p x) x k f);
@@ -83,7 +88,8 @@ word_goes p g number cur sp k x e l f = record {
 abbrev pub heard_at : Source → Sink → State
 heard_at s k = record { source = s; sink = k; to_sink = []; to_source = [] }
 
-pub may_say : (count w : ℕ) (kp : SinkPhase) (x : Message) (o : Option Form) → MaySay count kp x → message_in w o ≡ Some x → MayAnswerForm count kp o
+pub may_say : (count w : ℕ) (kp : SinkPhase) (x : Message) (o : Option Form)
+    → MaySay count kp x → message_in w o ≡ Some x → MayAnswerForm count kp o
 may_say count w kp x None m e = absurd (cc e)
 may_say count w kp x (Some (form.Rts n)) m e = let same : Rts n ≡ x = cc in subst (MaySay count kp) (sym same) m
 may_say count w kp x (Some (form.Cts n)) m e = let same : Cts n ≡ x = cc in subst (MaySay count kp) (sym same) m
@@ -101,10 +107,14 @@ may_say count w kp x (Some (form.Part s)) m e = let same : Part w ≡ x = cc in 
     no_part OwesNak m = m
 may_say count w kp x (Some (form.Eot f c)) m e = let same : Eot f c ≡ x = cc in subst (MaySay count kp) (sym same) m
 
-reply_goes : (p : Contents) (g : ℕ) (number : UnitNumber) (cur : Option LduValue) (sp : SourceState) (k : Sink) (x : Message) → MaySay k.count k.phase x → message_of p bus.B (word_of p x) ≡ Some x → Goes p (replies (word_of p x)) (at g number cur sp k) (heard_at (with_answer_message p cur sp x (source_at g number cur sp)) (answers_message p x k))
+reply_goes : (p : Contents) (g : ℕ) (number : UnitNumber) (cur : Option LduValue) (sp : SourceState) (k : Sink) (x : Message)
+    → MaySay k.count k.phase x → message_of p bus.B (word_of p x) ≡ Some x
+    → Goes p (replies (word_of p x)) (at g number cur sp k)
+    (heard_at (with_answer_message p cur sp x (source_at g number cur sp)) (answers_message p x k))
 reply_goes p g number cur sp k x m f = record {
   run = ((refl, may_say k.count (word_of p x) k.phase x (form_of p.codes bus.B (word_of p x)) m f), (tt, tt));
-  ends = ap (λ q. heard_at q (answers_word p.codes (word_of p x) k)) (with_answer_as p (word_of p x) x (source_at g number cur sp) f) ∙ ap (λ q. heard_at (with_answer_message p cur sp x (source_at g number cur sp)) q) (answers_as p (word_of p x) x k f);
+  ends = ap (λ q. heard_at q (answers_word p.codes (word_of p x) k)) (with_answer_as p (word_of p x) x (source_at g number cur sp) f)
+      ∙ ap (λ q. heard_at (with_answer_message p cur sp x (source_at g number cur sp)) q) (answers_as p (word_of p x) x k f);
 }
 
 -- ---- a block crosses
@@ -145,7 +155,8 @@ sound p is u h =
     record {
       fit = (is_read p is).fit u h;
       carried = ap is_some carried;
-      agrees = subst (λ (o : Option (List ℕ)). agrees p.check (unwrap_or o []) u.check ≡ true) (sym carried) (compared p.check.compare refl);
+      agrees =
+          subst (λ (o : Option (List ℕ)). agrees p.check (unwrap_or o []) u.check ≡ true) (sym carried) (compared p.check.compare refl);
     }
   where
     compared : (b : Bool) → p.check.compare ≡ b → (not p.check.compare || eqb u.check (check_of p.check h.bytes)) ≡ true
@@ -159,47 +170,67 @@ or_true : (b : Bool) → (b || true) ≡ true
 or_true true = refl
 or_true false = refl
 
-parts_goes : (p : Contents) → IsRead p → (g : ℕ) (number : UnitNumber) (u : LduValue) → Sound p u → (last : Option Number) (received : Received) → Comes p number last received → (qs ps : List ℕ) → qs ++ ps ≡ u.words → AllParts p ps → (k : ℕ) → k ≡ suc (length qs) → Goes p (all_steps (map sends_word (ps ++ word_of p (end_message u) ∷ []))) (at g number (Some u) (Sending k) (sink_at last received (count_of u) (holding u number qs))) (at g number (Some u) Waiting (sink_at last received (count_of u) (OwesAck (record { gfi = u.gfi; file = number.file; ldu = number.ldu; words = u.words }) u.flags)))
+parts_goes : (p : Contents)
+    → IsRead p → (g : ℕ) (number : UnitNumber) (u : LduValue) → Sound p u → (last : Option Number) (received : Received)
+    → Comes p number last received → (qs ps : List ℕ) → qs ++ ps ≡ u.words → AllParts p ps → (k : ℕ) → k ≡ suc (length qs)
+    → Goes p (all_steps (map sends_word (ps ++ word_of p (end_message u) ∷ [])))
+    (at g number (Some u) (Sending k) (sink_at last received (count_of u) (holding u number qs)))
+    (at g number (Some u) Waiting
+    (sink_at last received (count_of u) (OwesAck (record { gfi = u.gfi; file = number.file; ldu = number.ldu; words = u.words }) u.flags)))
 unfolding holding
 parts_goes p good g number u s last received c qs [] e a k ek =
     let same : qs ≡ u.words = sym (append-nil qs) ∙ e in
     let place : slice_get (block_messages u number) k ≡ Some (end_message u) = rw ek (rw same (get_last u.words (end_message u))) in
     let h = s.fit in
-    let form : message_of p bus.A (word_of p (end_message u)) ≡ Some (end_message u) = good.reads bus.A (end_message u) (h.flags, h.check) in
+    let form : message_of p bus.A (word_of p (end_message u)) ≡ Some (end_message u) =
+    good.reads bus.A (end_message u) (h.flags, h.check) in
     let whole : eqb (suc k) (count_of u) ≡ true = rw ek (rw same (eq-eqb _ _ (omega arith))) in
     let b : Block = record { gfi = u.gfi; file = number.file; ldu = number.ldu; words = qs } in
-    let is : is_good p last (count_of u) b u.check ≡ true = rw same (rw (eqb_same (length u.words + 2)) (rw s.carried (rw s.agrees (rw c.follows (or_true (is_same last number)))))) in
+    let is : is_good p last (count_of u) b u.check ≡ true =
+    rw same (rw (eqb_same (length u.words + 2)) (rw s.carried (rw s.agrees (rw c.follows (or_true (is_same last number)))))) in
     let one = word_goes p g number (Some u) (Sending k) (sink_at last received (count_of u) (InBlock b)) (end_message u) place tt form in
     record { run = one.run; ends = one.ends ∙ rw whole (rw is (rw same refl)) }
 parts_goes p good g number u s last received c qs (q ∷ ps) e a k ek =
-    let place : slice_get (block_messages u number) k ≡ Some (Part q) = rw ek (subst (λ ws. slice_get (map Part ws ++ end_message u ∷ []) (length qs) ≡ Some (Part q)) e (get_part qs q ps (end_message u))) in
+    let place : slice_get (block_messages u number) k ≡ Some (Part q) =
+    rw ek (subst (λ ws. slice_get (map Part ws ++ end_message u ∷ []) (length qs) ≡ Some (Part q)) e (get_part qs q ps (end_message u))) in
     let form : message_of p bus.A (word_of p (Part q)) ≡ Some (Part q) = good.reads bus.A (Part q) a.0 in
     let long : length (qs ++ q ∷ ps) ≡ length u.words = ap length e in
     let more : eqb (suc k) (count_of u) ≡ false = not_last (suc k) (count_of u) _ refl (omega (arith, long, length-append qs (q ∷ ps))) in
     let b : Block = record { gfi = u.gfi; file = number.file; ldu = number.ldu; words = qs } in
     let one = word_goes p g number (Some u) (Sending k) (sink_at last received (count_of u) (InBlock b)) (Part q) place tt form in
-    let next = parts_goes p good g number u s last received c (qs ++ q ∷ []) ps (append_assoc qs (q ∷ []) ps ∙ e) a.1 (suc k) (rw ek (omega (arith, length-append qs (q ∷ [])))) in
+    let next =
+    parts_goes p good g number u s last received c (qs ++ q ∷ []) ps (append_assoc qs (q ∷ []) ps ∙ e) a.1 (suc k)
+    (rw ek (omega (arith, length-append qs (q ∷ [])))) in
     goes_append p (sends_word q) _ _ _ _ (record { run = one.run; ends = one.ends ∙ rw more refl }) next
 
 abbrev pub idle_at : UnitNumber → Option Number → Received → ℕ → State
 idle_at number last received count = at 0 number None Idle (sink_at last received count Quiet)
 
 joined_words : (ws : List ℕ) (ack : ℕ) → all_steps (map sends_word ws ++ replies ack ∷ []) ≡ all_steps (map sends_word ws) ++ replies ack
-joined_words ws ack = joined_append (map sends_word ws) (replies ack ∷ []) ∙ ap (λ (l : List Step). all_steps (map sends_word ws) ++ l) (append-nil (replies ack))
+joined_words ws ack = joined_append (map sends_word ws) (replies ack ∷ [])
+    ∙ ap (λ (l : List Step). all_steps (map sends_word ws) ++ l) (append-nil (replies ack))
 
 -- the steps up to the acknowledgement
 abbrev pub sent_steps : Codes → UnitNumber → LduValue → List Step
-sent_steps c n u = requests c u ++ (replies (word_number c (form.Cts (count_of u))) ++ all_steps (map sends_word (block_of c u n.file n.ldu)))
+sent_steps c n u =
+    requests c u ++ (replies (word_number c (form.Cts (count_of u))) ++ all_steps (map sends_word (block_of c u n.file n.ldu)))
 
-pub block_split : (c : Codes) (n : UnitNumber) (u : LduValue) → all_steps (block_steps c n u) ≡ sent_steps c n u ++ replies (word_number c (form.Ack n.file n.ldu))
-block_split c n u = ap (λ (l : List Step). requests c u ++ (replies (word_number c (form.Cts (count_of u))) ++ l)) (joined_words (block_of c u n.file n.ldu) (word_number c (form.Ack n.file n.ldu)))
+pub block_split : (c : Codes) (n : UnitNumber) (u : LduValue)
+    → all_steps (block_steps c n u) ≡ sent_steps c n u ++ replies (word_number c (form.Ack n.file n.ldu))
+block_split c n u =
+    ap (λ (l : List Step). requests c u ++ (replies (word_number c (form.Cts (count_of u))) ++ l))
+    (joined_words (block_of c u n.file n.ldu) (word_number c (form.Ack n.file n.ldu)))
 
 -- the sink with the whole block of a link data unit, which it has not acknowledged
 abbrev pub owing : UnitNumber → LduValue → Option Number → Received → Sink
-owing number u last received = sink_at last received (count_of u) (OwesAck (record { gfi = u.gfi; file = number.file; ldu = number.ldu; words = u.words }) u.flags)
+owing number u last received =
+    sink_at last received (count_of u) (OwesAck (record { gfi = u.gfi; file = number.file; ldu = number.ldu; words = u.words }) u.flags)
 
 -- one link data unit is sent without loss
-pub block_sent : (p : Contents) → IsRead p → (g : ℕ) (number : UnitNumber) (u : LduValue) → IsLdu p u → Sound p u → (last : Option Number) (received : Received) (count : ℕ) → Comes p number last received → Goes p (sent_steps p.codes number u) (at g number None Idle (sink_at last received count Quiet)) (at g number (Some u) Waiting (owing number u last received))
+pub block_sent : (p : Contents) → IsRead p → (g : ℕ) (number : UnitNumber) (u : LduValue) → IsLdu p u → Sound p u
+    → (last : Option Number) (received : Received) (count : ℕ) → Comes p number last received
+    → Goes p (sent_steps p.codes number u) (at g number None Idle (sink_at last received count Quiet))
+    (at g number (Some u) Waiting (owing number u last received))
 unfolding holding
 block_sent p good g number u is s last received count c =
     let h = s.fit in
@@ -211,45 +242,73 @@ block_sent p good g number u is s last received count c =
     let n = count_of u in
     let rts : message_of p bus.A (word_of p (Rts n)) ≡ Some (Rts n) = good.reads bus.A (Rts n) (omega arith, omega arith) in
     let cts : message_of p bus.B (word_of p (Cts n)) ≡ Some (Cts n) = good.reads bus.B (Cts n) (omega arith, omega arith) in
-    let sot : message_of p bus.A (word_of p (Sot u.gfi number.file number.ldu)) ≡ Some (Sot u.gfi number.file number.ldu) = good.reads bus.A (Sot u.gfi number.file number.ldu) (h.gfi, byte, omega arith) in
+    let sot : message_of p bus.A (word_of p (Sot u.gfi number.file number.ldu)) ≡ Some (Sot u.gfi number.file number.ldu) =
+    good.reads bus.A (Sot u.gfi number.file number.ldu) (h.gfi, byte, omega arith) in
     let asked = word_goes p g number (Some u) Idle (sink_at last received count Quiet) (Rts n) refl tt rts in
-    let ask : Goes p (requests p.codes u) (at g number None Idle (sink_at last received count Quiet)) (at g number (Some u) Awaiting (sink_at last received n OwesClear)) = record {
+    let ask : Goes p (requests p.codes u) (at g number None Idle (sink_at last received count Quiet))
+    (at g number (Some u) Awaiting (sink_at last received n OwesClear)) =
+    record {
       run = ((tt, refl, fit, is), asked.run);
       ends = asked.ends;
     } in
     let cleared = reply_goes p g number (Some u) Awaiting (sink_at last received n OwesClear) (Cts n) refl cts in
-    let clear : Goes p (replies (word_of p (Cts n))) (at g number (Some u) Awaiting (sink_at last received n OwesClear)) (at g number (Some u) (Sending 0) (sink_at last received n Granted)) = record {
+    let clear : Goes p (replies (word_of p (Cts n))) (at g number (Some u) Awaiting (sink_at last received n OwesClear))
+    (at g number (Some u) (Sending 0) (sink_at last received n Granted)) =
+    record {
       run = cleared.run;
       ends = cleared.ends ∙ rw (eqb_same n) refl;
     } in
-    let begun = word_goes p g number (Some u) (Sending 0) (sink_at last received n Granted) (Sot u.gfi number.file number.ldu) refl tt sot in
+    let begun =
+    word_goes p g number (Some u) (Sending 0) (sink_at last received n Granted) (Sot u.gfi number.file number.ldu) refl tt sot in
     let more : eqb 1 n ≡ false = not_last 1 n _ refl (omega arith) in
-    let begin : Goes p (sends_word (word_of p (Sot u.gfi number.file number.ldu))) (at g number (Some u) (Sending 0) (sink_at last received n Granted)) (at g number (Some u) (Sending 1) (sink_at last received n (holding u number []))) = record {
+    let begin : Goes p (sends_word (word_of p (Sot u.gfi number.file number.ldu)))
+    (at g number (Some u) (Sending 0) (sink_at last received n Granted))
+    (at g number (Some u) (Sending 1) (sink_at last received n (holding u number []))) =
+    record {
       run = begun.run;
       ends = begun.ends ∙ rw more refl;
     } in
     let words = parts_goes p good g number u s last received c [] u.words refl h.parts 1 refl in
-    goes_append p (requests p.codes u) _ _ _ _ ask (goes_append p (replies (word_of p (Cts n))) _ _ _ _ clear (goes_append p (sends_word (word_of p (Sot u.gfi number.file number.ldu))) _ _ _ _ begin words))
+    goes_append p (requests p.codes u) _ _ _ _ ask
+    (goes_append p (replies (word_of p (Cts n))) _ _ _ _ clear
+    (goes_append p (sends_word (word_of p (Sot u.gfi number.file number.ldu))) _ _ _ _ begin words))
 
 -- one link data unit crosses without loss
-pub block_goes : (p : Contents) → IsRead p → (number : UnitNumber) (u : LduValue) → IsLdu p u → Sound p u → (last : Option Number) (received : Received) (count : ℕ) → Comes p number last received → Goes p (all_steps (block_steps p.codes number u)) (idle_at number last received count) (idle_at (number_after p.codes number u) (Some (unit_number p.codes number u)) (put number.file (bytes_in p.codes u.words) (is_final p.codes u.flags) received) (count_of u))
+pub block_goes : (p : Contents) → IsRead p → (number : UnitNumber) (u : LduValue) → IsLdu p u → Sound p u
+    → (last : Option Number) (received : Received) (count : ℕ) → Comes p number last received
+    → Goes p (all_steps (block_steps p.codes number u)) (idle_at number last received count)
+    (idle_at (number_after p.codes number u) (Some (unit_number p.codes number u))
+    (put number.file (bytes_in p.codes u.words) (is_final p.codes u.flags) received) (count_of u))
 block_goes p good number u is s last received count c =
     let low = good.first in
     let fit = c.room in
     let byte = c.byte in
     let n = count_of u in
-    let ack : message_of p bus.B (word_of p (Ack number.file number.ldu)) ≡ Some (Ack number.file number.ldu) = good.reads bus.B (Ack number.file number.ldu) (byte, omega arith) in
+    let ack : message_of p bus.B (word_of p (Ack number.file number.ldu)) ≡ Some (Ack number.file number.ldu) =
+    good.reads bus.B (Ack number.file number.ldu) (byte, omega arith) in
     let b : Block = record { gfi = u.gfi; file = number.file; ldu = number.ldu; words = u.words } in
-    let settled = reply_goes p 0 number (Some u) Waiting (sink_at last received n (OwesAck b u.flags)) (Ack number.file number.ldu) (refl, refl) ack in
-    let settle : Goes p (replies (word_of p (Ack number.file number.ldu))) (at 0 number (Some u) Waiting (sink_at last received n (OwesAck b u.flags))) (idle_at (number_after p.codes number u) (Some (unit_number p.codes number u)) (put number.file (bytes_in p.codes u.words) (is_final p.codes u.flags) received) n) = subst (λ (o : Received). Goes p (replies (word_of p (Ack number.file number.ldu))) (at 0 number (Some u) Waiting (sink_at last received n (OwesAck b u.flags))) (idle_at (number_after p.codes number u) (Some (unit_number p.codes number u)) (put number.file (bytes_in p.codes u.words) (is_final p.codes u.flags) o) n)) c.kept (record {
+    let settled =
+    reply_goes p 0 number (Some u) Waiting (sink_at last received n (OwesAck b u.flags)) (Ack number.file number.ldu) (refl, refl) ack in
+    let settle : Goes p (replies (word_of p (Ack number.file number.ldu)))
+    (at 0 number (Some u) Waiting (sink_at last received n (OwesAck b u.flags))) (idle_at (number_after p.codes number u)
+    (Some (unit_number p.codes number u)) (put number.file (bytes_in p.codes u.words) (is_final p.codes u.flags) received) n) =
+    subst (λ (o : Received).
+    Goes p (replies (word_of p (Ack number.file number.ldu))) (at 0 number (Some u) Waiting (sink_at last received n (OwesAck b u.flags)))
+    (idle_at (number_after p.codes number u) (Some (unit_number p.codes number u))
+    (put number.file (bytes_in p.codes u.words) (is_final p.codes u.flags) o) n))
+    c.kept (record {
       run = settled.run;
       ends = settled.ends ∙ rw (eqb_same number.file) (rw (eqb_same number.ldu) (rw c.new refl));
     }) in
-    subst (λ acts. Goes p acts (idle_at number last received count) (idle_at (number_after p.codes number u) (Some (unit_number p.codes number u)) (put number.file (bytes_in p.codes u.words) (is_final p.codes u.flags) received) n)) (sym (block_split p.codes number u))
+    subst (λ acts. Goes p acts (idle_at number last received count) (idle_at (number_after p.codes number u)
+    (Some (unit_number p.codes number u)) (put number.file (bytes_in p.codes u.words) (is_final p.codes u.flags) received) n))
+    (sym (block_split p.codes number u))
     (goes_append p _ _ _ _ _ (block_sent p good 0 number u is s last received count c) settle)
 
 -- the next number comes after this one
-pub next_comes : (p : Contents) → IsRead p → (number : UnitNumber) (bytes : List ℕ) (t : Bool) (received : Received) → number.file ≤ 255 → number.ldu ≤ p.codes.first_ldu + 254 → (next_number p.codes number t).ldu ≤ p.codes.first_ldu + 254 → Comes p (next_number p.codes number t) (Some (record { number = number; final = t })) (put number.file bytes t received)
+pub next_comes : (p : Contents) → IsRead p → (number : UnitNumber) (bytes : List ℕ) (t : Bool) (received : Received) → number.file ≤ 255
+    → number.ldu ≤ p.codes.first_ldu + 254 → (next_number p.codes number t).ldu ≤ p.codes.first_ldu + 254
+    → Comes p (next_number p.codes number t) (Some (record { number = number; final = t })) (put number.file bytes t received)
 next_comes p good number bytes true received byte fit room =
     let first = good.first in
     record {
@@ -294,18 +353,31 @@ abbrev pub Ready : Contents → UnitNumber → Option Number → Received → Li
 Ready p number last received [] = Unit {0}
 Ready p number last received (u ∷ us) = Comes p number last received
 
-pub ready_next : (p : Contents) → IsRead p → (number : UnitNumber) (u : LduValue) (us : List LduValue) (received : Received) → number.file ≤ 255 → number.ldu ≤ p.codes.first_ldu + 254 → AllFit p (number_after p.codes number u) us → Ready p (number_after p.codes number u) (Some (unit_number p.codes number u)) (put number.file (bytes_in p.codes u.words) (is_final p.codes u.flags) received) us
+pub ready_next : (p : Contents) → IsRead p → (number : UnitNumber) (u : LduValue) (us : List LduValue) (received : Received)
+    → number.file ≤ 255 → number.ldu ≤ p.codes.first_ldu + 254 → AllFit p (number_after p.codes number u) us
+    → Ready p (number_after p.codes number u) (Some (unit_number p.codes number u))
+    (put number.file (bytes_in p.codes u.words) (is_final p.codes u.flags) received) us
 ready_next p good number u [] received byte fit h = tt
-ready_next p good number u (v ∷ us) received byte fit h = next_comes p good number (bytes_in p.codes u.words) (is_final p.codes u.flags) received byte fit h.1
+ready_next p good number u (v ∷ us) received byte fit h =
+    next_comes p good number (bytes_in p.codes u.words) (is_final p.codes u.flags) received byte fit h.1
 
 -- all cross
-pub clean_goes : (p : Contents) → IsProfile p → (us : List LduValue) (number : UnitNumber) (last : Option Number) (received : Received) (count : ℕ) → AllFit p number us → Ready p number last received us → Goes p (all_steps (clean_steps p.codes number us)) (idle_at number last received count) (idle_at (number_behind p.codes number us) (last_after p.codes number last us) (shelved p.codes number us received) (count_after count us))
+pub clean_goes : (p : Contents) → IsProfile p → (us : List LduValue) (number : UnitNumber) (last : Option Number) (received : Received)
+    (count : ℕ) → AllFit p number us → Ready p number last received us
+    → Goes p (all_steps (clean_steps p.codes number us)) (idle_at number last received count)
+    (idle_at (number_behind p.codes number us) (last_after p.codes number last us) (shelved p.codes number us received)
+    (count_after count us))
 clean_goes p is [] number last received count h r = record { run = tt; ends = refl }
 clean_goes p is (u ∷ us) number last received count h r =
     let good = is_read p is in
     let one = block_goes p good number u h.0 (sound p is u h.0) last received count r in
-    let more = clean_goes p is us (number_after p.codes number u) (Some (unit_number p.codes number u)) (put number.file (bytes_in p.codes u.words) (is_final p.codes u.flags) received) (count_of u) h.2 (ready_next p good number u us received r.byte r.room h.2) in
-    subst (λ acts. Goes p acts (idle_at number last received count) (idle_at (number_behind p.codes number (u ∷ us)) (last_after p.codes number last (u ∷ us)) (shelved p.codes number (u ∷ us) received) (count_after count (u ∷ us)))) (sym (joined_append (block_steps p.codes number u) (clean_steps p.codes (number_after p.codes number u) us)))
+    let more =
+    clean_goes p is us (number_after p.codes number u) (Some (unit_number p.codes number u))
+    (put number.file (bytes_in p.codes u.words) (is_final p.codes u.flags) received) (count_of u) h.2
+    (ready_next p good number u us received r.byte r.room h.2) in
+    subst (λ acts. Goes p acts (idle_at number last received count) (idle_at (number_behind p.codes number (u ∷ us))
+    (last_after p.codes number last (u ∷ us)) (shelved p.codes number (u ∷ us) received) (count_after count (u ∷ us))))
+    (sym (joined_append (block_steps p.codes number u) (clean_steps p.codes (number_after p.codes number u) us)))
     (goes_append p _ _ _ _ _ one more)
 
 -- ---- free words between
@@ -320,7 +392,8 @@ pub trace_append : (xs ys : List Step) → trace (xs ++ ys) ≡ trace xs ++ trac
 trace_append [] ys = refl
 trace_append (x ∷ xs) ys = with (label x) (trace_append xs ys)
   where
-    with : (l : Option Seen) → trace (xs ++ ys) ≡ trace xs ++ trace ys → with_label l (trace (xs ++ ys)) ≡ with_label l (trace xs) ++ trace ys
+    with : (l : Option Seen)
+        → trace (xs ++ ys) ≡ trace xs ++ trace ys → with_label l (trace (xs ++ ys)) ≡ with_label l (trace xs) ++ trace ys
     with None e = e
     with (Some i) e = ap (λ (t : List Seen). i ∷ t) e
 
@@ -335,11 +408,21 @@ words_record [] = tt
 words_record (w ∷ ws) = (refl, words_record ws)
 
 block_records : (c : Codes) (number : UnitNumber) (u : LduValue) → Records (block_steps c number u) (clean_block c number u)
-block_records c number u = (refl, (refl, records_append (map sends_word (block_of c u number.file number.ldu)) (replies (word_number c (form.Ack number.file number.ldu)) ∷ []) (map on_a (block_of c u number.file number.ldu)) (on_b (word_number c (form.Ack number.file number.ldu)) ∷ []) (words_record (block_of c u number.file number.ldu)) (refl, tt)))
+block_records c number u = (
+  refl,
+  (
+    refl,
+    records_append (map sends_word (block_of c u number.file number.ldu)) (replies (word_number c (form.Ack number.file number.ldu)) ∷ [])
+        (map on_a (block_of c u number.file number.ldu)) (on_b (word_number c (form.Ack number.file number.ldu)) ∷ [])
+        (words_record (block_of c u number.file number.ldu)) (refl, tt),
+  ),
+)
 
 pub clean_records : (c : Codes) (us : List LduValue) (number : UnitNumber) → Records (clean_steps c number us) (clean_blocks c number us)
 clean_records c [] number = tt
-clean_records c (u ∷ us) number = records_append (block_steps c number u) (clean_steps c (number_after c number u) us) (clean_block c number u) (clean_blocks c (number_after c number u) us) (block_records c number u) (clean_records c us (number_after c number u))
+clean_records c (u ∷ us) number =
+    records_append (block_steps c number u) (clean_steps c (number_after c number u) us) (clean_block c number u)
+    (clean_blocks c (number_after c number u) us) (block_records c number u) (clean_records c us (number_after c number u))
 
 pub record Woven (p : Contents) (items : List Seen) (gs : List (List Step)) (s : State) : Type 0 where
   pub goes : Goes p (weave p.codes items gs) s (end_of p (all_steps gs) s)
@@ -353,24 +436,39 @@ pub run_split : (p : Contents) (xs ys : List Step) (s : State) → IsRun p (xs +
 run_split p [] ys s h = (tt, h)
 run_split p (x ∷ xs) ys s h = let more = run_split p xs ys (after p x s) h.1 in ((h.0, more.0), more.1)
 
-woven_group : (p : Contents) (i : Seen) (items : List Seen) (gs : List (List Step)) (s : State) → Records gs (i ∷ without_free p.codes items) → IsRun p (all_steps gs) s → ((hs : List (List Step)) (t : State) → Records hs (without_free p.codes items) → IsRun p (all_steps hs) t → Woven p items hs t) → Goes p (first_of gs ++ weave p.codes items (rest_of gs)) s (end_of p (all_steps gs) s) × (trace (first_of gs ++ weave p.codes items (rest_of gs)) ≡ i ∷ items)
+woven_group : (p : Contents) (i : Seen) (items : List Seen) (gs : List (List Step)) (s : State)
+    → Records gs (i ∷ without_free p.codes items) → IsRun p (all_steps gs) s
+    → ((hs : List (List Step)) (t : State) → Records hs (without_free p.codes items) → IsRun p (all_steps hs) t → Woven p items hs t)
+    → Goes p (first_of gs ++ weave p.codes items (rest_of gs)) s (end_of p (all_steps gs) s)
+    × (trace (first_of gs ++ weave p.codes items (rest_of gs)) ≡ i ∷ items)
 woven_group p i items [] s r h more = absurd r
 woven_group p i items (g ∷ gs) s r h more =
     let parts = run_split p g (all_steps gs) s h in
     let next = more gs (end_of p g s) r.1 parts.1 in
-    let all : Goes p (g ++ weave p.codes items gs) s (end_of p (all_steps gs) (end_of p g s)) = goes_append p g (weave p.codes items gs) _ _ _ (record { run = parts.0; ends = refl }) next.goes in
-    (record { run = all.run; ends = all.ends ∙ sym (end_append p g (all_steps gs) s) }, trace_append g (weave p.codes items gs) ∙ ap (λ (l : List Seen). l ++ trace (weave p.codes items gs)) r.0 ∙ ap (λ (l : List Seen). i ∷ l) next.records)
+    let all : Goes p (g ++ weave p.codes items gs) s (end_of p (all_steps gs) (end_of p g s)) =
+    goes_append p g (weave p.codes items gs) _ _ _ (record { run = parts.0; ends = refl }) next.goes in (
+      record { run = all.run; ends = all.ends ∙ sym (end_append p g (all_steps gs) s) },
+      trace_append g (weave p.codes items gs) ∙ ap (λ (l : List Seen). l ++ trace (weave p.codes items gs)) r.0
+          ∙ ap (λ (l : List Seen). i ∷ l) next.records,
+    )
 
-woven_item : (p : Contents) (i : Seen) (items : List Seen) (gs : List (List Step)) (s : State) (b : Bool) → is_free p.codes i.bus i.word ≡ b → Records gs (cond b (without_free p.codes items) (i ∷ without_free p.codes items)) → IsRun p (all_steps gs) s → ((hs : List (List Step)) (t : State) → Records hs (without_free p.codes items) → IsRun p (all_steps hs) t → Woven p items hs t) → Goes p (cond b (FreeSeen i ∷ weave p.codes items gs) (first_of gs ++ weave p.codes items (rest_of gs))) s (end_of p (all_steps gs) s) × (trace (cond b (FreeSeen i ∷ weave p.codes items gs) (first_of gs ++ weave p.codes items (rest_of gs))) ≡ i ∷ items)
-woven_item p i items gs s true e r h more = let next = more gs s r h in (record { run = (e, next.goes.run); ends = next.goes.ends }, ap (λ (l : List Seen). i ∷ l) next.records)
+woven_item : (p : Contents) (i : Seen) (items : List Seen) (gs : List (List Step)) (s : State) (b : Bool) → is_free p.codes i.bus i.word ≡ b
+    → Records gs (cond b (without_free p.codes items) (i ∷ without_free p.codes items)) → IsRun p (all_steps gs) s
+    → ((hs : List (List Step)) (t : State) → Records hs (without_free p.codes items) → IsRun p (all_steps hs) t → Woven p items hs t)
+    → Goes p (cond b (FreeSeen i ∷ weave p.codes items gs) (first_of gs ++ weave p.codes items (rest_of gs))) s (end_of p (all_steps gs) s)
+    × (trace (cond b (FreeSeen i ∷ weave p.codes items gs) (first_of gs ++ weave p.codes items (rest_of gs))) ≡ i ∷ items)
+woven_item p i items gs s true e r h more =
+    let next = more gs s r h in (record { run = (e, next.goes.run); ends = next.goes.ends }, ap (λ (l : List Seen). i ∷ l) next.records)
 woven_item p i items gs s false e r h more = woven_group p i items gs s r h more
 
-pub weave_goes : (p : Contents) (items : List Seen) (gs : List (List Step)) (s : State) → Records gs (without_free p.codes items) → IsRun p (all_steps gs) s → Woven p items gs s
+pub weave_goes : (p : Contents) (items : List Seen) (gs : List (List Step)) (s : State)
+    → Records gs (without_free p.codes items) → IsRun p (all_steps gs) s → Woven p items gs s
 weave_goes p [] gs s r h = rw (none_left gs r) (record { goes = record { run = tt; ends = refl }; records = refl })
 weave_goes p (i ∷ items) gs s r h =
     let both = woven_item p i items gs s (is_free p.codes i.bus i.word) refl r h (weave_goes p items) in
     record { goes = both.0; records = both.1 }
 
-pub start_ready : (p : Contents) (file : ℕ) (us : List LduValue) → file ≤ 255 → AllFit p (first_number p.codes file) us → Ready p (first_number p.codes file) None nothing_received us
+pub start_ready : (p : Contents) (file : ℕ) (us : List LduValue)
+    → file ≤ 255 → AllFit p (first_number p.codes file) us → Ready p (first_number p.codes file) None nothing_received us
 start_ready p file [] f h = tt
 start_ready p file (u ∷ us) f h = record { new = refl; follows = eqb_same p.codes.first_ldu; byte = f; room = h.1; kept = refl }

@@ -34,10 +34,16 @@ accepts_one c b flags k = by (is_same k.last (number_of b))
     received : Received
     received = received_for k.last b.file k.received
 
-    by : (t : Bool) → OneMore k.received.files (cond t k (record k { last = Some (record { number = number_of b; final = is_final c flags }); received = put b.file (bytes_in c b.words) (is_final c flags) received })).received.files
+    by : (t : Bool)
+        → OneMore k.received.files
+        (cond t k (record k {
+          last = Some (record { number = number_of b; final = is_final c flags });
+          received = put b.file (bytes_in c b.words) (is_final c flags) received;
+        })).received.files
     by true = none_more k.received.files k.received.files refl
     by false =
-        let same : length received.files ≡ length k.received.files = ap (λ (l : List FileBytes). length l) (received_for_files k.last b.file k.received) in
+        let same : length received.files ≡ length k.received.files =
+        ap (λ (l : List FileBytes). length l) (received_for_files k.last b.file k.received) in
         let one = put_one b.file (bytes_in c b.words) (is_final c flags) received in
         omega (arith, same, one)
 

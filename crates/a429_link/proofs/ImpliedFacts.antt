@@ -28,19 +28,27 @@ use Rattle.a429_link.proofs.TraceFiles.{after_push, observed_sink}
 
 -- the sink that has accepted a block which did not come again
 abbrev accepted : Codes → Block → ℕ → Bool → Bool → Sink → Sink
-accepted c b flags same_file final k = record k { last = Some (record { number = number_of b; final = final }); received = put b.file (bytes_in c b.words) final (cond same_file k.received (emptied k.received)) }
+accepted c b flags same_file final k = record k {
+  last = Some (record { number = number_of b; final = final });
+  received = put b.file (bytes_in c b.words) final (cond same_file k.received (emptied k.received));
+}
 
-accepted_out : (c : Codes) (b : Block) (flags : ℕ) (same_file final : Bool) (k : Sink) → without_files (in_phase Quiet (accepted c b flags same_file final (without_files k))) ≡ without_files (in_phase Quiet (accepted c b flags same_file final k))
+accepted_out : (c : Codes) (b : Block) (flags : ℕ) (same_file final : Bool) (k : Sink)
+    → without_files (in_phase Quiet (accepted c b flags same_file final (without_files k)))
+    ≡ without_files (in_phase Quiet (accepted c b flags same_file final k))
 accepted_out c b flags true true k = refl
 accepted_out c b flags true false k = refl
 accepted_out c b flags false true k = refl
 accepted_out c b flags false false k = refl
 
-block_out : (c : Codes) (b : Block) (flags : ℕ) (again same_file final : Bool) (k : Sink) → without_files (in_phase Quiet (cond again (without_files k) (accepted c b flags same_file final (without_files k)))) ≡ without_files (in_phase Quiet (cond again k (accepted c b flags same_file final k)))
+block_out : (c : Codes) (b : Block) (flags : ℕ) (again same_file final : Bool) (k : Sink)
+    → without_files (in_phase Quiet (cond again (without_files k) (accepted c b flags same_file final (without_files k))))
+    ≡ without_files (in_phase Quiet (cond again k (accepted c b flags same_file final k)))
 block_out c b flags true same_file final k = refl
 block_out c b flags false same_file final k = accepted_out c b flags same_file final k
 
-owed_out : (c : Codes) (phase : SinkPhase) (k : Sink) → without_files (in_phase Quiet (accepts_owed c phase (without_files k))) ≡ without_files (in_phase Quiet (accepts_owed c phase k))
+owed_out : (c : Codes) (phase : SinkPhase) (k : Sink)
+    → without_files (in_phase Quiet (accepts_owed c phase (without_files k))) ≡ without_files (in_phase Quiet (accepts_owed c phase k))
 owed_out c (OwesAck b flags) k = block_out c b flags (is_same k.last (number_of b)) (is_same_file k.last b.file) (is_final c flags) k
 owed_out c Quiet k = refl
 owed_out c OwesClear k = refl
@@ -48,7 +56,8 @@ owed_out c Granted k = refl
 owed_out c (InBlock b) k = refl
 owed_out c OwesNak k = refl
 
-handed_out : (p : Contents) (b : Bus) (w : ℕ) (x : Option Form) (k : Sink) → without_files (sink_sees_form p b w x (without_files k)) ≡ without_files (sink_sees_form p b w x k)
+handed_out : (p : Contents) (b : Bus) (w : ℕ) (x : Option Form) (k : Sink)
+    → without_files (sink_sees_form p b w x (without_files k)) ≡ without_files (sink_sees_form p b w x k)
 handed_out p bus.A w None k = refl
 handed_out p bus.A w (Some (form.Rts n)) k = refl
 handed_out p bus.A w (Some (form.Cts n)) k = refl
@@ -68,27 +77,38 @@ handed_out p bus.B w (Some (form.Eot f c)) k = refl
 
 -- ---- what is implied is the sink, and what an observer counts
 
-implies_one : (p : Contents) (i : Seen) (k : Sink) (seen : List Message) (o : Observer) → o ≡ seeing k seen → implies p i (with_counts o k) ≡ with_counts (sees p i o) (sink_sees p i.bus i.word k)
+implies_one : (p : Contents) (i : Seen) (k : Sink) (seen : List Message) (o : Observer)
+    → o ≡ seeing k seen → implies p i (with_counts o k) ≡ with_counts (sees p i o) (sink_sees p i.bus i.word k)
 implies_one p i k seen o e =
-    let counts = by i.bus (form_of p.codes i.bus i.word) ∙ ap (with_counts (sees p i (seeing k seen))) (sym (sees_on_as p i.bus i.word k)) in
+    let counts =
+    by i.bus (form_of p.codes i.bus i.word) ∙ ap (with_counts (sees p i (seeing k seen))) (sym (sees_on_as p i.bus i.word k)) in
     subst (λ (q : Observer). implies p i (with_counts q k) ≡ with_counts (sees p i q) (sink_sees p i.bus i.word k)) (sym e) counts
   where
-    by : (b : Bus) (x : Option Form) → implies_form p b i.word x (with_counts (seeing k seen) k) ≡ with_counts (sees_form p b i.word x (seeing k seen)) (sink_sees_form p b i.word x k)
+    by : (b : Bus) (x : Option Form)
+        → implies_form p b i.word x (with_counts (seeing k seen) k)
+        ≡ with_counts (sees_form p b i.word x (seeing k seen)) (sink_sees_form p b i.word x k)
     by bus.A None = refl
     by bus.B None = refl
     by b (Some x) =
-        ap (λ (s : Sink). record { sink = s; begun = (sees_form p b i.word (Some x) (seeing k seen)).begun; parts = (sees_form p b i.word (Some x) (seeing k seen)).parts }) (handed_out p b i.word (Some x) k)
+        ap (λ (s : Sink). record {
+          sink = s;
+          begun = (sees_form p b i.word (Some x) (seeing k seen)).begun;
+          parts = (sees_form p b i.word (Some x) (seeing k seen)).parts;
+        }) (handed_out p b i.word (Some x) k)
 
-implied_as : (p : Contents) (items : List Seen) (k : Sink) (seen : List Message) (o : Observer) → o ≡ seeing k seen → implied p items (with_counts o k) ≡ with_counts (observed p items o) (sink_after p items k)
+implied_as : (p : Contents) (items : List Seen) (k : Sink) (seen : List Message) (o : Observer)
+    → o ≡ seeing k seen → implied p items (with_counts o k) ≡ with_counts (observed p items o) (sink_after p items k)
 implied_as p [] k seen o e = refl
 implied_as p (i ∷ items) k seen o e =
     ap (implied p items) (implies_one p i k seen o e)
     ∙ implied_as p items (sink_sees p i.bus i.word k) (see_item p i seen) (sees p i o) (ap (sees p i) e ∙ sees_same p i k seen)
 
-pub implied_sink : (p : Contents) (items : List Seen) → implied p items implied_at_first ≡ with_counts (observed p items at_first) (sink_after p items sink_at_first)
+pub implied_sink : (p : Contents) (items : List Seen)
+    → implied p items implied_at_first ≡ with_counts (observed p items at_first) (sink_after p items sink_at_first)
 implied_sink p items = implied_as p items sink_at_first [] at_first refl
 
-pub implied_push : (p : Contents) (items : List Seen) (i : Seen) (k : Implied) → implied p (items ++ i ∷ []) k ≡ implies p i (implied p items k)
+pub implied_push : (p : Contents) (items : List Seen) (i : Seen) (k : Implied)
+    → implied p (items ++ i ∷ []) k ≡ implies p i (implied p items k)
 implied_push p [] i k = refl
 implied_push p (x ∷ items) i k = implied_push p items i (implies p x k)
 
@@ -107,11 +127,14 @@ none_crosses count reason (OwesAck b flags) = refl
 none_crosses count reason OwesNak = refl
 
 abbrev Crosses : Contents → Bus → ℕ → Form → Sink → Type 0
-Crosses p b w x k = sizes_of (sink_sees_form p b w (Some x) k).received.files ≡ sizes_of k.received.files ++ crossings_of (does p b w x (without_files k))
+Crosses p b w x k =
+    sizes_of (sink_sees_form p b w (Some x) k).received.files ≡ sizes_of k.received.files ++ crossings_of (does p b w x (without_files k))
 
 -- nothing crosses by a word that is no acknowledgement
 none_cross : (p : Contents) (b : Bus) (w : ℕ) (x : Form) (k : Sink) → (sink_sees_form p b w (Some x) k).received.files ≡ k.received.files
-    → does p b w x (without_files k) ≡ doing_in (sink_sees_form p b w (Some x) (without_files k)).count (why_at p x (without_files k)) (sink_sees_form p b w (Some x) (without_files k)).phase → Crosses p b w x k
+    → does p b w x (without_files k) ≡ doing_in (sink_sees_form p b w (Some x) (without_files k)).count (why_at p x (without_files k))
+    (sink_sees_form p b w (Some x) (without_files k)).phase
+    → Crosses p b w x k
 none_cross p b w x k files is =
     let new = sink_sees_form p b w (Some x) (without_files k) in
     let none = ap crossings_of is ∙ none_crosses new.count (why_at p x (without_files k)) new.phase in
@@ -122,7 +145,9 @@ abbrev acknowledged : Bool → ℕ → ℕ → List FileBytes → Doing
 acknowledged again file ldu files = cond again (doing.Again file ldu) (doing.Accepts file ldu (crossing_in files))
 
 accepted_crosses : (c : Codes) (b : Block) (flags : ℕ) (again same_file final : Bool) (k : Sink) →
-    sizes_of (cond again k (accepted c b flags same_file final k)).received.files ≡ sizes_of k.received.files ++ crossings_of (acknowledged again b.file b.ldu (cond again (without_files k) (accepted c b flags same_file final (without_files k))).received.files)
+    sizes_of (cond again k (accepted c b flags same_file final k)).received.files ≡ sizes_of k.received.files
+    ++ crossings_of (acknowledged again b.file b.ldu
+    (cond again (without_files k) (accepted c b flags same_file final (without_files k))).received.files)
 accepted_crosses c b flags true same_file final k = sym (append-nil (sizes_of k.received.files))
 accepted_crosses c b flags false true true k = sizes_push k.received.files _
 accepted_crosses c b flags false false true k = sizes_push k.received.files _
@@ -130,9 +155,12 @@ accepted_crosses c b flags false true false k = sym (append-nil (sizes_of k.rece
 accepted_crosses c b flags false false false k = sym (append-nil (sizes_of k.received.files))
 
 abbrev OwedCrosses : Codes → SinkPhase → Sink → ℕ → ℕ → Type 0
-OwedCrosses c phase k file ldu = sizes_of (accepts_owed c phase k).received.files ≡ sizes_of k.received.files ++ crossings_of (acknowledging file ldu (without_files k) (in_phase Quiet (accepts_owed c phase (without_files k))))
+OwedCrosses c phase k file ldu =
+    sizes_of (accepts_owed c phase k).received.files ≡ sizes_of k.received.files
+    ++ crossings_of (acknowledging file ldu (without_files k) (in_phase Quiet (accepts_owed c phase (without_files k))))
 
-owed_crosses : (c : Codes) (count : ℕ) (phase : SinkPhase) (file ldu : ℕ) (k : Sink) → MayAnswer count phase (form.Ack file ldu) → OwedCrosses c phase k file ldu
+owed_crosses : (c : Codes) (count : ℕ) (phase : SinkPhase) (file ldu : ℕ) (k : Sink)
+    → MayAnswer count phase (form.Ack file ldu) → OwedCrosses c phase k file ldu
 owed_crosses c count (OwesAck b flags) file ldu k may =
     subst (λ f. OwedCrosses c (OwesAck b flags) k f ldu) (sym may.0)
     (subst (λ l. OwedCrosses c (OwesAck b flags) k b.file l) (sym may.1)
@@ -143,7 +171,8 @@ owed_crosses c count Granted file ldu k may = absurd may
 owed_crosses c count (InBlock b) file ldu k may = absurd may
 owed_crosses c count OwesNak file ldu k may = absurd may
 
-crosses : (p : Contents) (b : Bus) (w : ℕ) (x : Form) (k : Sink) (o : Observer) → o.phase ≡ k.phase → AllowsForm o b (Some x) → Crosses p b w x k
+crosses : (p : Contents) (b : Bus) (w : ℕ) (x : Form) (k : Sink) (o : Observer)
+    → o.phase ≡ k.phase → AllowsForm o b (Some x) → Crosses p b w x k
 crosses p bus.A w (form.Rts n) k o at a = none_cross p bus.A w (form.Rts n) k refl refl
 crosses p bus.A w (form.Cts n) k o at a = none_cross p bus.A w (form.Cts n) k refl refl
 crosses p bus.A w (form.Ack f l) k o at a = absurd a
@@ -153,18 +182,24 @@ crosses p bus.A w (form.Part s) k o at a = none_cross p bus.A w (form.Part s) k 
 crosses p bus.A w (form.Eot f c) k o at a = none_cross p bus.A w (form.Eot f c) k refl refl
 crosses p bus.B w (form.Rts n) k o at a = none_cross p bus.B w (form.Rts n) k refl refl
 crosses p bus.B w (form.Cts n) k o at a = none_cross p bus.B w (form.Cts n) k refl refl
-crosses p bus.B w (form.Ack f l) k o at a = owed_crosses p.codes o.count k.phase f l k (subst (λ (phase : SinkPhase). MayAnswer o.count phase (form.Ack f l)) at a)
+crosses p bus.B w (form.Ack f l) k o at a =
+    owed_crosses p.codes o.count k.phase f l k (subst (λ (phase : SinkPhase). MayAnswer o.count phase (form.Ack f l)) at a)
 crosses p bus.B w (form.Nak b) k o at a = none_cross p bus.B w (form.Nak b) k refl refl
 crosses p bus.B w (form.Sot g f l) k o at a = none_cross p bus.B w (form.Sot g f l) k refl refl
 crosses p bus.B w (form.Part s) k o at a = none_cross p bus.B w (form.Part s) k refl refl
 crosses p bus.B w (form.Eot f c) k o at a = none_cross p bus.B w (form.Eot f c) k refl refl
 
 -- the files after one more word
-files_push : (p : Contents) (items : List Seen) (i : Seen) → files_of p (items ++ i ∷ []) ≡ (sink_sees_form p i.bus i.word (form_of p.codes i.bus i.word) (sink_after p items sink_at_first)).received.files
-files_push p items i = ap (λ (k : Sink). k.received.files) (after_push p items i sink_at_first ∙ sees_on_as p i.bus i.word (sink_after p items sink_at_first))
+files_push : (p : Contents) (items : List Seen) (i : Seen)
+    → files_of p (items ++ i ∷ [])
+    ≡ (sink_sees_form p i.bus i.word (form_of p.codes i.bus i.word) (sink_after p items sink_at_first)).received.files
+files_push p items i =
+    ap (λ (k : Sink). k.received.files) (after_push p items i sink_at_first ∙ sees_on_as p i.bus i.word (sink_after p items sink_at_first))
 
-pub file_crosses : (p : Contents) (items : List Seen) (i : Seen) (x : Form) → form_of p.codes i.bus i.word ≡ Some x → AllowsForm (observed p items at_first) i.bus (Some x)
-    → sizes_of (files_of p (items ++ i ∷ [])) ≡ sizes_of (files_of p items) ++ crossings_of (does p i.bus i.word x (implied p items implied_at_first).sink)
+pub file_crosses : (p : Contents) (items : List Seen) (i : Seen) (x : Form)
+    → form_of p.codes i.bus i.word ≡ Some x → AllowsForm (observed p items at_first) i.bus (Some x)
+    → sizes_of (files_of p (items ++ i ∷ [])) ≡ sizes_of (files_of p items)
+    ++ crossings_of (does p i.bus i.word x (implied p items implied_at_first).sink)
 file_crosses p items i x e a =
     let k = sink_after p items sink_at_first in
     let at = ap (λ (s : Sink). s.phase) (observed_sink p items) in
@@ -173,7 +208,8 @@ file_crosses p items i x e a =
     ∙ crosses p i.bus i.word x k (observed p items at_first) at a
     ∙ ap (λ (s : Sink). sizes_of (files_of p items) ++ crossings_of (does p i.bus i.word x s)) (sym out)
 
-pub files_stay_without : (p : Contents) (items : List Seen) (i : Seen) → form_of p.codes i.bus i.word ≡ None → files_of p (items ++ i ∷ []) ≡ files_of p items
+pub files_stay_without : (p : Contents) (items : List Seen) (i : Seen)
+    → form_of p.codes i.bus i.word ≡ None → files_of p (items ++ i ∷ []) ≡ files_of p items
 files_stay_without p items i e =
     let k = sink_after p items sink_at_first in
     files_push p items i ∙ ap (λ (o : Option Form). (sink_sees_form p i.bus i.word o k).received.files) e ∙ by i.bus k

@@ -22,7 +22,8 @@ front_grows (suc k) [] h = absurd (omega (arith, h))
 front_grows (suc k) (x ∷ xs) h = ap (λ l. x ∷ l) (front_grows k xs (omega (arith, h)))
 
 -- the boundary goes one word on
-pub lane_moved : (k : ℕ) (xs : List ℕ) → k < length xs → lane_at (k + 1) xs ≡ record { taken = take k xs ++ slice_index (drop k xs) 0 ∷ []; coming = rest (drop k xs) }
+pub lane_moved : (k : ℕ) (xs : List ℕ)
+    → k < length xs → lane_at (k + 1) xs ≡ record { taken = take k xs ++ slice_index (drop k xs) 0 ∷ []; coming = rest (drop k xs) }
 lane_moved k xs h =
     let next : k + 1 ≡ suc k = omega arith in
     let front : take (k + 1) xs ≡ take k xs ++ slice_index (drop k xs) 0 ∷ [] = ap (λ n. take n xs) next ∙ front_grows k xs h in
@@ -41,5 +42,6 @@ first_is_out zero (x ∷ xs) h = refl
 first_is_out (suc k) [] h = absurd (omega (arith, h))
 first_is_out (suc k) (x ∷ xs) h = first_is_out k xs (omega (arith, h))
 
-pub lane_removed : (k : ℕ) (xs ys : List ℕ) → k < length xs → ys ≡ remove xs k → lane_at k ys ≡ record { taken = take k xs; coming = rest (drop k xs) }
+pub lane_removed : (k : ℕ) (xs ys : List ℕ)
+    → k < length xs → ys ≡ remove xs k → lane_at k ys ≡ record { taken = take k xs; coming = rest (drop k xs) }
 lane_removed k xs ys h e = rw e (rw (front_stays k xs h) (rw (first_is_out k xs h) refl))

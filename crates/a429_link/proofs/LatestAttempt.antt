@@ -51,13 +51,16 @@ item_words bus.B w (Some (form.Eot f c)) a = refl
 
 latest_words_from : (p : Contents) (items : List Seen) (a : Attempt) → (latest_from p a items).words ≡ attempt_from p items a.words
 latest_words_from p [] a = refl
-latest_words_from p (i ∷ items) a = latest_words_from p items (under_way (asks i.bus (form_of p.codes i.bus i.word)) (grown i.bus i.word (form_of p.codes i.bus i.word) a)) ∙ ap (attempt_from p items) (item_words i.bus i.word (form_of p.codes i.bus i.word) a)
+latest_words_from p (i ∷ items) a =
+    latest_words_from p items (under_way (asks i.bus (form_of p.codes i.bus i.word)) (grown i.bus i.word (form_of p.codes i.bus i.word) a))
+    ∙ ap (attempt_from p items) (item_words i.bus i.word (form_of p.codes i.bus i.word) a)
 
 pub latest_words : (p : Contents) (items : List Seen) → (latest p items).words ≡ attempt p items
 latest_words p items = latest_words_from p items (fresh 0)
 
 -- the count that the latest attempt asks for
-item_count : (p : Contents) (b : Bus) (w : ℕ) (o : Option Form) (a : Attempt) (k : Sink) → a.count ≡ k.count → (under_way (asks b o) (grown b w o a)).count ≡ (sink_sees_form p b w o k).count
+item_count : (p : Contents) (b : Bus) (w : ℕ) (o : Option Form) (a : Attempt) (k : Sink)
+    → a.count ≡ k.count → (under_way (asks b o) (grown b w o a)).count ≡ (sink_sees_form p b w o k).count
 item_count p bus.A w None a k e = e
 item_count p bus.A w (Some (form.Rts n)) a k e = refl
 item_count p bus.A w (Some (form.Cts n)) a k e = e
@@ -75,10 +78,12 @@ item_count p bus.B w (Some (form.Sot g f l)) a k e = e
 item_count p bus.B w (Some (form.Part s)) a k e = e
 item_count p bus.B w (Some (form.Eot f c)) a k e = e
 
-latest_count_from : (p : Contents) (items : List Seen) (a : Attempt) (k : Sink) → a.count ≡ k.count → (latest_from p a items).count ≡ (sink_after p items k).count
+latest_count_from : (p : Contents) (items : List Seen) (a : Attempt) (k : Sink)
+    → a.count ≡ k.count → (latest_from p a items).count ≡ (sink_after p items k).count
 latest_count_from p [] a k e = e
 latest_count_from p (i ∷ items) a k e =
-    latest_count_from p items (under_way (asks i.bus (form_of p.codes i.bus i.word)) (grown i.bus i.word (form_of p.codes i.bus i.word) a)) (sees p (Some i) k)
+    latest_count_from p items (under_way (asks i.bus (form_of p.codes i.bus i.word)) (grown i.bus i.word (form_of p.codes i.bus i.word) a))
+    (sees p (Some i) k)
     (item_count p i.bus i.word (form_of p.codes i.bus i.word) a k e ∙ ap (λ (q : Sink). q.count) (sym (sees_on_as p i.bus i.word k)))
 
 pub latest_count : (p : Contents) (items : List Seen) → (latest p items).count ≡ (sink_after p items sink_at_first).count

@@ -35,7 +35,8 @@ use Rattle.a429_link.specs.declared.number.UnitNumber.{UnitNumber}
 abbrev sink_with : List FileBytes → Sink → Sink
 sink_with files k = record k { received = record (k.received) { files = files ++ k.received.files } }
 
-takes_with : (p : Contents) (files : List FileBytes) (w : ℕ) (o : Option Form) (k : Sink) → takes_form p w o (sink_with files k) ≡ sink_with files (takes_form p w o k)
+takes_with : (p : Contents) (files : List FileBytes) (w : ℕ) (o : Option Form) (k : Sink)
+    → takes_form p w o (sink_with files k) ≡ sink_with files (takes_form p w o k)
 takes_with p files w None k = refl
 takes_with p files w (Some (form.Rts n)) k = refl
 takes_with p files w (Some (form.Cts n)) k = refl
@@ -45,38 +46,54 @@ takes_with p files w (Some (form.Sot g f l)) k = refl
 takes_with p files w (Some (form.Part s)) k = refl
 takes_with p files w (Some (form.Eot f c)) k = refl
 
-takes_first_with : (p : Contents) (files : List FileBytes) (ws : List ℕ) (k : Sink) → takes_first p ws (sink_with files k) ≡ sink_with files (takes_first p ws k)
+takes_first_with : (p : Contents) (files : List FileBytes) (ws : List ℕ) (k : Sink)
+    → takes_first p ws (sink_with files k) ≡ sink_with files (takes_first p ws k)
 takes_first_with p files [] k = refl
 takes_first_with p files (w ∷ ws) k = takes_with p files w (form_of p.codes bus.A w) k
 
 abbrev received_with : List FileBytes → Received → Received
 received_with files s = record s { files = files ++ s.files }
 
-put_with : (files : List FileBytes) (n : ℕ) (bytes : List ℕ) (t : Bool) (s : Received) → put n bytes t (received_with files s) ≡ received_with files (put n bytes t s)
-put_with files n bytes true s = ap (λ (l : List FileBytes). put_on l) (append_assoc files s.files (record { number = n; bytes = s.open_bytes ++ bytes } ∷ []))
+put_with : (files : List FileBytes) (n : ℕ) (bytes : List ℕ) (t : Bool) (s : Received)
+    → put n bytes t (received_with files s) ≡ received_with files (put n bytes t s)
+put_with files n bytes true s =
+    ap (λ (l : List FileBytes). put_on l) (append_assoc files s.files (record { number = n; bytes = s.open_bytes ++ bytes } ∷ []))
   where
     put_on : List FileBytes → Received
     put_on l = record { files = l; open_bytes = [] }
 put_with files n bytes false s = refl
 
-received_for_with : (files : List FileBytes) (last : Option Number) (n : ℕ) (s : Received) → received_for last n (received_with files s) ≡ received_with files (received_for last n s)
+received_for_with : (files : List FileBytes) (last : Option Number) (n : ℕ) (s : Received)
+    → received_for last n (received_with files s) ≡ received_with files (received_for last n s)
 received_for_with files last n s = by_file (is_same_file last n)
   where
     by_file : (t : Bool) → cond t (received_with files s) (emptied (received_with files s)) ≡ received_with files (cond t s (emptied s))
     by_file true = refl
     by_file false = refl
 
-accepts_with : (c : Codes) (files : List FileBytes) (b : Block) (flags : ℕ) (k : Sink) → accepts c b flags (sink_with files k) ≡ sink_with files (accepts c b flags k)
+accepts_with : (c : Codes) (files : List FileBytes) (b : Block) (flags : ℕ) (k : Sink)
+    → accepts c b flags (sink_with files k) ≡ sink_with files (accepts c b flags k)
 accepts_with c files b flags k = by_same (is_same k.last (number_of b))
   where
     taken_in : Received → Sink
     taken_in s = record k { last = Some (record { number = number_of b; final = is_final c flags }); received = s }
 
-    by_same : (t : Bool) → cond t (sink_with files k) (record (sink_with files k) { last = Some (record { number = number_of b; final = is_final c flags }); received = put b.file (bytes_in c b.words) (is_final c flags) (received_for k.last b.file (received_with files k.received)) }) ≡ sink_with files (cond t k (record k { last = Some (record { number = number_of b; final = is_final c flags }); received = put b.file (bytes_in c b.words) (is_final c flags) (received_for k.last b.file k.received) }))
+    by_same : (t : Bool)
+        → cond t (sink_with files k) (record (sink_with files k) {
+          last = Some (record { number = number_of b; final = is_final c flags });
+          received = put b.file (bytes_in c b.words) (is_final c flags) (received_for k.last b.file (received_with files k.received));
+        }) ≡ sink_with files
+        (cond t k (record k {
+          last = Some (record { number = number_of b; final = is_final c flags });
+          received = put b.file (bytes_in c b.words) (is_final c flags) (received_for k.last b.file k.received);
+        }))
     by_same true = refl
-    by_same false = ap taken_in (ap (put b.file (bytes_in c b.words) (is_final c flags)) (received_for_with files k.last b.file k.received) ∙ put_with files b.file (bytes_in c b.words) (is_final c flags) (received_for k.last b.file k.received))
+    by_same false =
+        ap taken_in (ap (put b.file (bytes_in c b.words) (is_final c flags)) (received_for_with files k.last b.file k.received)
+        ∙ put_with files b.file (bytes_in c b.words) (is_final c flags) (received_for k.last b.file k.received))
 
-accepts_owed_with : (c : Codes) (files : List FileBytes) (kp : SinkPhase) (k : Sink) → accepts_owed c kp (sink_with files k) ≡ sink_with files (accepts_owed c kp k)
+accepts_owed_with : (c : Codes) (files : List FileBytes) (kp : SinkPhase) (k : Sink)
+    → accepts_owed c kp (sink_with files k) ≡ sink_with files (accepts_owed c kp k)
 accepts_owed_with c files (OwesAck b flags) k = accepts_with c files b flags k
 accepts_owed_with c files Quiet k = refl
 accepts_owed_with c files OwesClear k = refl
@@ -84,7 +101,8 @@ accepts_owed_with c files Granted k = refl
 accepts_owed_with c files (InBlock b) k = refl
 accepts_owed_with c files OwesNak k = refl
 
-answers_with : (c : Codes) (files : List FileBytes) (o : Option Form) (k : Sink) → answers_form c o (sink_with files k) ≡ sink_with files (answers_form c o k)
+answers_with : (c : Codes) (files : List FileBytes) (o : Option Form) (k : Sink)
+    → answers_form c o (sink_with files k) ≡ sink_with files (answers_form c o k)
 answers_with c files None k = refl
 answers_with c files (Some (form.Rts n)) k = refl
 answers_with c files (Some (form.Cts n)) k = refl
@@ -98,7 +116,8 @@ answers_with c files (Some (form.Part s)) k = refl
 answers_with c files (Some (form.Eot f ch)) k = refl
 
 -- a step leads to the same state, with the earlier files
-pub after_earlier : (p : Contents) (a : Step) (files : List FileBytes) (s : State) → after p a (with_earlier files s) ≡ with_earlier files (after p a s)
+pub after_earlier : (p : Contents) (a : Step) (files : List FileBytes) (s : State)
+    → after p a (with_earlier files s) ≡ with_earlier files (after p a s)
 after_earlier p (Load u) files s = refl
 after_earlier p (Sent i) files s = refl
 after_earlier p SentLost files s = refl
@@ -150,7 +169,8 @@ pub end_push : (p : Contents) (steps : List Step) (a : Step) (s : State) → end
 end_push p [] a s = refl
 end_push p (b ∷ steps) a s = end_push p steps a (after p b s)
 
-pub run_push : (p : Contents) (steps : List Step) (a : Step) (s : State) → IsRun p steps s → Can p a (end_of p steps s) → IsRun p (steps ++ a ∷ []) s
+pub run_push : (p : Contents) (steps : List Step) (a : Step) (s : State)
+    → IsRun p steps s → Can p a (end_of p steps s) → IsRun p (steps ++ a ∷ []) s
 run_push p [] a s h c = (c, tt)
 run_push p (b ∷ steps) a s h c = (h.0, run_push p steps a (after p b s) h.1 c)
 
@@ -161,7 +181,8 @@ run_holds p good (a ∷ steps) s r h = run_holds p good steps (after p a s) r.1 
 -- ---- a link's states
 
 pub kept_start : (p : Contents) (first : ℕ) → IsProfile p → first ≤ 255 → IsKept p (start p first)
-kept_start p first is l = record { sound = is; earlier = []; reached = record { first = first; byte = l; steps = []; run = tt; ends = refl } }
+kept_start p first is l =
+    record { sound = is; earlier = []; reached = record { first = first; byte = l; steps = []; run = tt; ends = refl } }
 
 pub kept_step : (p : Contents) (a : Step) (s : State) → IsKept p s → Can p a s → IsKept p (after p a s)
 kept_step p a s h c =
@@ -207,7 +228,15 @@ kept_holds p s h =
     let r = h.reached in
     let good = is_read p h.sound in
     let b = subst (HoldsAt p) r.ends (run_holds p good r.steps (start p r.first) r.run (start_holds p r.first r.byte)) in
-    record { xs = b.xs; ys = b.ys; sink_words = b.sink_words; source_words = b.source_words; file = b.file; current = b.current; fits = b.fits }
+    record {
+      xs = b.xs;
+      ys = b.ys;
+      sink_words = b.sink_words;
+      source_words = b.source_words;
+      file = b.file;
+      current = b.current;
+      fits = b.fits;
+    }
 
 -- ---- steps by name
 
@@ -216,7 +245,8 @@ some_word (Some w) h = (w, refl)
 some_word None h = absurd (cc h)
 
 -- the count of a clear answer that is owed
-owed_count : (p : Contents) (number : UnitNumber) (cur : Option LduValue) (sp : SourceState) (count : ℕ) (xs ys : List Message) → Current p cur number.ldu → Config number cur sp count OwesClear xs ys → (3 ≤ count) × (count ≤ 255)
+owed_count : (p : Contents) (number : UnitNumber) (cur : Option LduValue) (sp : SourceState) (count : ℕ) (xs ys : List Message)
+    → Current p cur number.ldu → Config number cur sp count OwesClear xs ys → (3 ≤ count) × (count ≤ 255)
 owed_count p number cur sp count xs ys c (heard {u} r q) = let some = c.0.some in let room = c.0.room in (omega arith, omega arith)
 owed_count p number cur sp count xs ys c (idle f s) = absurd s
 owed_count p number cur sp count xs ys c (asked r s q) = absurd s
@@ -225,12 +255,23 @@ owed_count p number cur sp count xs ys c (sending r g q le h) = absurd g
 owed_count p number cur sp count xs ys c (waiting r g q h) = absurd g
 
 -- a word that the sink owes
-owed_word : (p : Contents) → IsProfile p → (s : State) → HoldsAt p s → (kp : SinkPhase) → s.sink.phase ≡ kp → Owes kp → (w : ℕ) × MayAnswerForm s.sink.count kp (form_of p.codes bus.B w)
+owed_word : (p : Contents) → IsProfile p → (s : State) → HoldsAt p s → (kp : SinkPhase) → s.sink.phase ≡ kp → Owes kp
+    → (w : ℕ) × MayAnswerForm s.sink.count kp (form_of p.codes bus.B w)
 owed_word p is s h OwesClear e o =
-    let range = owed_count p s.source.number s.source.current s.source.phase s.sink.count h.xs h.ys h.current (subst (λ q. Config s.source.number s.source.current s.source.phase s.sink.count q h.xs h.ys) e h.fits) in
-    (word_number p.codes (form.Cts s.sink.count), subst (MayAnswerForm s.sink.count OwesClear) (sym (form_of-word_number p is (form.Cts s.sink.count) range)) refl)
-owed_word p is s h (OwesAck b flags) e o = (word_number p.codes (form.Nak 0), subst (MayAnswerForm s.sink.count (OwesAck b flags)) (sym (form_of-word_number p is (form.Nak 0) (omega arith))) tt)
-owed_word p is s h OwesNak e o = (word_number p.codes (form.Nak 0), subst (MayAnswerForm s.sink.count OwesNak) (sym (form_of-word_number p is (form.Nak 0) (omega arith))) tt)
+    let range =
+    owed_count p s.source.number s.source.current s.source.phase s.sink.count h.xs h.ys h.current
+    (subst (λ q. Config s.source.number s.source.current s.source.phase s.sink.count q h.xs h.ys) e h.fits) in (
+      word_number p.codes (form.Cts s.sink.count),
+      subst (MayAnswerForm s.sink.count OwesClear) (sym (form_of-word_number p is (form.Cts s.sink.count) range)) refl,
+    )
+owed_word p is s h (OwesAck b flags) e o = (
+  word_number p.codes (form.Nak 0),
+  subst (MayAnswerForm s.sink.count (OwesAck b flags)) (sym (form_of-word_number p is (form.Nak 0) (omega arith))) tt,
+)
+owed_word p is s h OwesNak e o = (
+  word_number p.codes (form.Nak 0),
+  subst (MayAnswerForm s.sink.count OwesNak) (sym (form_of-word_number p is (form.Nak 0) (omega arith))) tt,
+)
 owed_word p is s h Quiet e o = absurd o
 owed_word p is s h Granted e o = absurd o
 owed_word p is s h (InBlock b) e o = absurd o
@@ -242,14 +283,16 @@ free_word c = refl
 
 pub named_if_ready : (p : Contents) → IsProfile p → (a : Step) (s : State) → HoldsAt p s → IsReadyStep p a s → IsNamedStep p a s
 named_if_ready p is (Load u) s h r = r
-named_if_ready p is (Sent i) s h r = let next = some_word (next_word_of p s.source) r in (record { bus = bus.A; word = next.0 }, (refl, next.1))
+named_if_ready p is (Sent i) s h r =
+    let next = some_word (next_word_of p s.source) r in (record { bus = bus.A; word = next.0 }, (refl, next.1))
 named_if_ready p is SentLost s h r = r
 named_if_ready p is TimeOut s h r = r
 named_if_ready p is TakeAnswer s h r = r
 named_if_ready p is LoseAnswer s h r = r
 named_if_ready p is SinkTakes s h r = r
 named_if_ready p is Silent s h r = r
-named_if_ready p is (Answered i) s h r = let owed = owed_word p is s h s.sink.phase refl r in (record { bus = bus.B; word = owed.0 }, (refl, owed.1))
+named_if_ready p is (Answered i) s h r =
+    let owed = owed_word p is s h s.sink.phase refl r in (record { bus = bus.B; word = owed.0 }, (refl, owed.1))
 named_if_ready p is (FreeSeen i) s h r = (record { bus = bus.A; word = 0 }, free_word p.codes)
 named_if_ready p is GiveUp s h r = r
 
@@ -289,6 +332,7 @@ pub kept_after : {T : Type 0} (p : Contents) (a : Step) (s t : State) (r : Resul
 kept_after p a s t (Ok u) k h = subst (IsKept p) (sym h.1) (kept_step p a s k h.0)
 kept_after p a s t (Err e) k h = subst (IsKept p) (sym h.1) k
 
-pub fault_after : {T : Type 0} (p : Contents) (a : Step) (s t : State) (r : Result T StepFault) → IsKept p s → Applies p a s t r → IfErr r (λ e. IsFault p a s e)
+pub fault_after : {T : Type 0} (p : Contents) (a : Step) (s t : State) (r : Result T StepFault)
+    → IsKept p s → Applies p a s t r → IfErr r (λ e. IsFault p a s e)
 fault_after p a s t (Ok u) k h = tt
 fault_after p a s t (Err e) k h = fault_by_name p a s e k h.0

@@ -39,24 +39,28 @@ can_lose p s u k h =
     rw (h.current, h.sending) (some_there (slice_get block k) _ word)
 
 -- a word that is not the last: the next one is sent then
-pub lost_inside : (p : Contents) (s : State) (u : LduValue) (k : ℕ) → SendsWord s u k → suc k < count_of u → after p SentLost s ≡ in_phase (Sending (suc k)) s
+pub lost_inside : (p : Contents) (s : State) (u : LduValue) (k : ℕ)
+    → SendsWord s u k → suc k < count_of u → after p SentLost s ≡ in_phase (Sending (suc k)) s
 lost_inside p s u k h more =
     let other : (suc k == count_of u) ≡ false = ne_eqb (suc k) (count_of u) (λ e. omega (arith, more, e)) in
     rw (h.current, h.sending, other) refl
 
 -- the last word: the source waits then
-pub lost_last : (p : Contents) (s : State) (u : LduValue) (k : ℕ) → SendsWord s u k → suc k ≡ count_of u → after p SentLost s ≡ in_phase Waiting s
+pub lost_last : (p : Contents) (s : State) (u : LduValue) (k : ℕ)
+    → SendsWord s u k → suc k ≡ count_of u → after p SentLost s ≡ in_phase Waiting s
 lost_last p s u k h last =
     let same : (suc k == count_of u) ≡ true = grind (arith, nat_tests) in
     rw (h.current, h.sending, same) refl
 
-pub sends_next : (s : State) (u : LduValue) (k : ℕ) → SendsWord s u k → suc k < count_of u → SendsWord (in_phase (Sending (suc k)) s) u (suc k)
+pub sends_next : (s : State) (u : LduValue) (k : ℕ)
+    → SendsWord s u k → suc k < count_of u → SendsWord (in_phase (Sending (suc k)) s) u (suc k)
 sends_next s u k h more = record { current = h.current; sending = refl; inside = more }
 
 -- ---- all words
 
 -- the words from word k on
-pub all_lost : (p : Contents) (u : LduValue) (n k : ℕ) (s : State) → SendsWord s u k → k + suc n ≡ count_of u → IsRun p (losses (suc n)) s × (end_of p (losses (suc n)) s ≡ in_phase Waiting s)
+pub all_lost : (p : Contents) (u : LduValue) (n k : ℕ) (s : State)
+    → SendsWord s u k → k + suc n ≡ count_of u → IsRun p (losses (suc n)) s × (end_of p (losses (suc n)) s ≡ in_phase Waiting s)
 all_lost p u zero k s h whole = ((can_lose p s u k h, tt), lost_last p s u k h (omega (arith, whole)))
 all_lost p u (suc n) k s h whole =
     let more : suc k < count_of u = omega (arith, whole) in
@@ -76,12 +80,14 @@ none_lost p s q e = (tt, rw (sym e) refl)
 pub rest_lost : (p : Contents) (s : State) → Loses p s (words_left s.source) (phase_past s.source.current s.source.phase)
 rest_lost p s = by s.source.current s.source.phase refl refl
   where
-    in_block : (u : LduValue) (k : ℕ) (b : Bool) → nat_lt k (count_of u) ≡ b → s.source.current ≡ Some u → s.source.phase ≡ Sending k → Loses p s (count_of u - k) (if b then Waiting else Sending k)
+    in_block : (u : LduValue) (k : ℕ) (b : Bool) → nat_lt k (count_of u) ≡ b → s.source.current ≡ Some u → s.source.phase ≡ Sending k
+        → Loses p s (count_of u - k) (if b then Waiting else Sending k)
     in_block u k true less e f =
         let inside : k < count_of u = grind (arith, nat_tests) in
         let m = count_of u - k - 1 in
         let some : suc m ≡ count_of u - k = omega (arith, inside) in
-        subst (λ (n : ℕ). Loses p s n Waiting) some (all_lost p u m k s (record { current = e; sending = f; inside = inside }) (omega (arith, inside)))
+        subst (λ (n : ℕ). Loses p s n Waiting) some
+        (all_lost p u m k s (record { current = e; sending = f; inside = inside }) (omega (arith, inside)))
     in_block u k false less e f =
         let none : count_of u - k ≡ 0 = grind (arith, nat_tests) in
         subst (λ (n : ℕ). Loses p s n (Sending k)) (sym none) (none_lost p s (Sending k) f)
@@ -94,7 +100,8 @@ rest_lost p s = by s.source.current s.source.phase refl refl
     by None q e f = none_lost p s q f
 
 -- a source that has words of a block left sends one of them
-pub sends_word : (s : State) (k n : ℕ) → s.source.phase ≡ Sending k → n ≡ words_left s.source → 0 < n → (u : LduValue) × SendsWord s u k × (k + n ≡ count_of u)
+pub sends_word : (s : State) (k n : ℕ)
+    → s.source.phase ≡ Sending k → n ≡ words_left s.source → 0 < n → (u : LduValue) × SendsWord s u k × (k + n ≡ count_of u)
 sends_word s k n phase count some = by s.source.current refl (count ∙ ap (left_of s.source.current) phase)
   where
     by : (o : Option LduValue) → s.source.current ≡ o → n ≡ left_of o (Sending k) → (u : LduValue) × SendsWord s u k × (k + n ≡ count_of u)
@@ -103,7 +110,8 @@ sends_word s k n phase count some = by s.source.current refl (count ∙ ap (left
 
 -- ---- a link
 
-pub kept_run : (p : Contents) (steps : List Step) (s : State) → IsKept p s → IsRun p steps s → IsKept p (end_of p steps s) × StaysBounded p steps s
+pub kept_run : (p : Contents) (steps : List Step) (s : State)
+    → IsKept p s → IsRun p steps s → IsKept p (end_of p steps s) × StaysBounded p steps s
 kept_run p [] s kept run = (kept, kept_bounded p s kept)
 kept_run p (a ∷ steps) s kept run =
     let rest = kept_run p steps (after p a s) (kept_step p a s kept run.0) run.1 in

@@ -103,8 +103,10 @@ parts_words : (p : Contents) (ws : List ℕ) (x : Message) → map (word_of p) (
 parts_words p [] x = refl
 parts_words p (w ∷ ws) x = ap (λ (l : List ℕ). w ∷ l) (parts_words p ws x)
 
-pub block_words : (p : Contents) (u : LduValue) (number : UnitNumber) → map (word_of p) (block_messages u number) ≡ block_of p.codes u number.file number.ldu
-block_words p u number = ap (λ (l : List ℕ). word_number p.codes (form.Sot u.gfi number.file number.ldu) ∷ l) (parts_words p u.words (end_message u))
+pub block_words : (p : Contents) (u : LduValue) (number : UnitNumber)
+    → map (word_of p) (block_messages u number) ≡ block_of p.codes u number.file number.ldu
+block_words p u number =
+    ap (λ (l : List ℕ). word_number p.codes (form.Sot u.gfi number.file number.ldu) ∷ l) (parts_words p u.words (end_message u))
 
 -- ---- the source
 
@@ -125,9 +127,11 @@ get_message p (x ∷ xs) zero w e = record { said = x; is = refl; word = cc }
 get_message p (x ∷ xs) (suc k) w e = get_message p xs k w e
 
 -- the next word says it
-pub next_says : (p : Contents) (number : UnitNumber) (cur : Option LduValue) (sp : SourceState) (w : ℕ) → next_word p.codes number cur sp ≡ Some w → Says p (next_message number cur sp) w
+pub next_says : (p : Contents) (number : UnitNumber) (cur : Option LduValue) (sp : SourceState) (w : ℕ)
+    → next_word p.codes number cur sp ≡ Some w → Says p (next_message number cur sp) w
 next_says p number (Some u) Idle w e = record { said = Rts (count_of u); is = refl; word = cc }
-next_says p number (Some u) (Sending k) w e = get_message p (block_messages u number) k w (subst (λ (l : List ℕ). slice_get l k ≡ Some w) (sym (block_words p u number)) e)
+next_says p number (Some u) (Sending k) w e =
+    get_message p (block_messages u number) k w (subst (λ (l : List ℕ). slice_get l k ≡ Some w) (sym (block_words p u number)) e)
 next_says p number (Some u) Awaiting w e = absurd (cc e)
 next_says p number (Some u) Waiting w e = absurd (cc e)
 next_says p number None sp w e = absurd (cc e)
@@ -137,9 +141,11 @@ some_message p [] k h = h
 some_message p (x ∷ xs) zero h = refl
 some_message p (x ∷ xs) (suc k) h = some_message p xs k h
 
-pub next_is_some : (p : Contents) (number : UnitNumber) (cur : Option LduValue) (sp : SourceState) → IsSome (next_word p.codes number cur sp) → IsSome (next_message number cur sp)
+pub next_is_some : (p : Contents) (number : UnitNumber) (cur : Option LduValue) (sp : SourceState)
+    → IsSome (next_word p.codes number cur sp) → IsSome (next_message number cur sp)
 next_is_some p number (Some u) Idle h = refl
-next_is_some p number (Some u) (Sending k) h = some_message p (block_messages u number) k (subst (λ (l : List ℕ). IsSome (slice_get l k)) (sym (block_words p u number)) h)
+next_is_some p number (Some u) (Sending k) h =
+    some_message p (block_messages u number) k (subst (λ (l : List ℕ). IsSome (slice_get l k)) (sym (block_words p u number)) h)
 next_is_some p number (Some u) Awaiting h = absurd (cc h)
 next_is_some p number (Some u) Waiting h = absurd (cc h)
 next_is_some p number None sp h = absurd (cc h)
@@ -152,14 +158,16 @@ abbrev pub with_answer_seen : Contents → Option Message → Source → Source
 with_answer_seen p None s = s
 with_answer_seen p (Some x) s = with_answer_message p s.current s.phase x s
 
-with_answer_part : (p : Contents) (cur : Option LduValue) (sp : SourceState) (semis others : List ℕ) (s : Source) → with_answer p.codes cur sp (form.Part semis) s ≡ with_answer p.codes cur sp (form.Part others) s
+with_answer_part : (p : Contents) (cur : Option LduValue) (sp : SourceState) (semis others : List ℕ) (s : Source)
+    → with_answer p.codes cur sp (form.Part semis) s ≡ with_answer p.codes cur sp (form.Part others) s
 with_answer_part p None sp semis others s = refl
 with_answer_part p (Some u) Idle semis others s = refl
 with_answer_part p (Some u) Awaiting semis others s = refl
 with_answer_part p (Some u) (Sending k) semis others s = refl
 with_answer_part p (Some u) Waiting semis others s = refl
 
-pub with_answer_join : (p : Contents) (w : ℕ) (o : Option Form) (s : Source) → with_answer_form p.codes o s ≡ with_answer_seen p (message_in w o) s
+pub with_answer_join : (p : Contents) (w : ℕ) (o : Option Form) (s : Source)
+    → with_answer_form p.codes o s ≡ with_answer_seen p (message_in w o) s
 with_answer_join p w None s = refl
 with_answer_join p w (Some (form.Rts n)) s = refl
 with_answer_join p w (Some (form.Cts n)) s = refl
@@ -176,7 +184,8 @@ abbrev pub is_own_ack_seen : Source → Option Message → Bool
 is_own_ack_seen s None = false
 is_own_ack_seen s (Some x) = is_own_ack_message s.number s.phase x
 
-own_part : (number : UnitNumber) (sp : SourceState) (semis others : List ℕ) → is_own_ack number sp (form.Part semis) ≡ is_own_ack number sp (form.Part others)
+own_part : (number : UnitNumber) (sp : SourceState) (semis others : List ℕ)
+    → is_own_ack number sp (form.Part semis) ≡ is_own_ack number sp (form.Part others)
 own_part number Idle semis others = refl
 own_part number Awaiting semis others = refl
 own_part number (Sending k) semis others = refl
@@ -255,10 +264,12 @@ replies count kp w (Some (form.Eot f c)) m = record { said = Eot f c; is = refl;
 pub takes_as : (p : Contents) (w : ℕ) (x : Message) (k : Sink) → message_of p bus.A w ≡ Some x → takes_word p w k ≡ takes_message p x k
 takes_as p w x k e = takes_join p w (form_of p.codes bus.A w) k ∙ ap (λ o. takes_seen p o k) e
 
-pub answers_as : (p : Contents) (w : ℕ) (x : Message) (k : Sink) → message_of p bus.B w ≡ Some x → answers_word p.codes w k ≡ answers_message p x k
+pub answers_as : (p : Contents) (w : ℕ) (x : Message) (k : Sink)
+    → message_of p bus.B w ≡ Some x → answers_word p.codes w k ≡ answers_message p x k
 answers_as p w x k e = answers_join p w (form_of p.codes bus.B w) k ∙ ap (λ o. answers_seen p o k) e
 
-pub with_answer_as : (p : Contents) (w : ℕ) (x : Message) (s : Source) → message_of p bus.B w ≡ Some x → with_answer_form p.codes (form_of p.codes bus.B w) s ≡ with_answer_message p s.current s.phase x s
+pub with_answer_as : (p : Contents) (w : ℕ) (x : Message) (s : Source)
+    → message_of p bus.B w ≡ Some x → with_answer_form p.codes (form_of p.codes bus.B w) s ≡ with_answer_message p s.current s.phase x s
 with_answer_as p w x s e = with_answer_join p w (form_of p.codes bus.B w) s ∙ ap (λ o. with_answer_seen p o s) e
 
 -- each word says the next of these
@@ -267,7 +278,8 @@ AllSay p b [] [] = Unit {0}
 AllSay p b (w ∷ ws) (x ∷ xs) = (message_of p b w ≡ Some x) × AllSay p b ws xs
 AllSay p b _ _ = ⊥
 
-pub say_push : (p : Contents) (b : Bus) (ws : List ℕ) (xs : List Message) (w : ℕ) (x : Message) → AllSay p b ws xs → message_of p b w ≡ Some x → AllSay p b (ws ++ w ∷ []) (xs ++ x ∷ [])
+pub say_push : (p : Contents) (b : Bus) (ws : List ℕ) (xs : List Message) (w : ℕ) (x : Message)
+    → AllSay p b ws xs → message_of p b w ≡ Some x → AllSay p b (ws ++ w ∷ []) (xs ++ x ∷ [])
 say_push p b [] [] w x h e = (e, tt)
 say_push p b [] (y ∷ xs) w x h e = absurd h
 say_push p b (v ∷ ws) [] w x h e = absurd h

@@ -36,7 +36,8 @@ none_where true u o e = refl
 none_where false u o e = absurd (cc e)
 
 -- data words are read as data words
-data_form : (p : Contents) → IsProfile p → (w : ℕ) (s : List ℕ) → IsForm p.codes bus.A w (form.Part s) → form_of p.codes bus.A w ≡ Some (form.Part s)
+data_form : (p : Contents)
+    → IsProfile p → (w : ℕ) (s : List ℕ) → IsForm p.codes bus.A w (form.Part s) → form_of p.codes bus.A w ≡ Some (form.Part s)
 data_form p is w s h = (form_of-is p is bus.A w (form.Part s)).1 (form_is_not_free p is bus.A w (form.Part s) h, h)
 
 data_parts : (p : Contents) → IsProfile p → (ws : List ℕ) (ss : List (List ℕ)) → AreDataWords p.codes ws ss → AllParts p ws

@@ -11,7 +11,8 @@ take_next zero w (y ∷ ys) h = let e : y ≡ w = cc in ap (λ (x : Message). x 
 take_next (suc k) w (y ∷ ys) h = ap (λ (l : List Message). y ∷ l) (take_next k w ys h)
 
 -- the word at a place of a front and one more
-pub get_front : (k : ℕ) (w e : Message) (ys : List Message) → slice_get (ys ++ e ∷ []) k ≡ Some w → ((suc k ≤ length ys) × (slice_get ys k ≡ Some w)) ⊎ ((k ≡ length ys) × (w ≡ e))
+pub get_front : (k : ℕ) (w e : Message) (ys : List Message)
+    → slice_get (ys ++ e ∷ []) k ≡ Some w → ((suc k ≤ length ys) × (slice_get ys k ≡ Some w)) ⊎ ((k ≡ length ys) × (w ≡ e))
 get_front zero w e [] h = inr (refl, cc)
 get_front (suc k) w e [] h = absurd (cc h)
 get_front zero w e (y ∷ ys) h = inl (omega arith, h)
@@ -57,7 +58,8 @@ parts_block [] = tt
 parts_block (s ∷ ps) = (tt, parts_block ps)
 
 -- an end word among words that end by one: nothing comes behind it
-pub sub_end : (f c : ℕ) (e : Message) (xs rest ys : List Message) → Each IsFrontWord ys → IsSubsequenceOf (xs ++ Eot f c ∷ rest) (ys ++ e ∷ []) → (Eot f c ≡ e) × (rest ≡ []) × IsSubsequenceOf xs ys
+pub sub_end : (f c : ℕ) (e : Message) (xs rest ys : List Message)
+    → Each IsFrontWord ys → IsSubsequenceOf (xs ++ Eot f c ∷ rest) (ys ++ e ∷ []) → (Eot f c ≡ e) × (rest ≡ []) × IsSubsequenceOf xs ys
 sub_end f c e [] rest [] a (inl h) = absurd (cc h)
 sub_end f c e [] rest [] a (inr (zs, q, h)) = (cc, cc, refl)
 sub_end f c e (x ∷ xs) rest [] a (inl h) = absurd (cc h)
@@ -87,7 +89,8 @@ pub same_parts : (ps qs : List ℕ) → length ps ≡ length qs → IsSubsequenc
 same_parts [] [] n h = refl
 same_parts (s ∷ ps) [] n h = absurd (omega arith)
 same_parts [] (t ∷ qs) n h = absurd (omega arith)
-same_parts (s ∷ ps) (t ∷ qs) n (inl h) = absurd (omega (arith, sub_length (map Part (s ∷ ps)) (map Part qs) h, length-parts (s ∷ ps), length-parts qs))
+same_parts (s ∷ ps) (t ∷ qs) n (inl h) =
+    absurd (omega (arith, sub_length (map Part (s ∷ ps)) (map Part qs) h, length-parts (s ∷ ps), length-parts qs))
 same_parts (s ∷ ps) (t ∷ qs) n (inr (zs, q, h)) =
     let same : zs ≡ map Part ps = cc in
     let head : s ≡ t = cc in
@@ -96,7 +99,8 @@ same_parts (s ∷ ps) (t ∷ qs) n (inr (zs, q, h)) =
     cc
 
 -- the start word is the only one
-pub sub_start : (g f l g' f' l' : ℕ) (ps qs : List ℕ) → IsSubsequenceOf (Sot g f l ∷ map Part ps) (Sot g' f' l' ∷ map Part qs) → (f ≡ f') × (l ≡ l') × IsSubsequenceOf (map Part ps) (map Part qs) × (g ≡ g')
+pub sub_start : (g f l g' f' l' : ℕ) (ps qs : List ℕ) → IsSubsequenceOf (Sot g f l ∷ map Part ps) (Sot g' f' l' ∷ map Part qs)
+    → (f ≡ f') × (l ≡ l') × IsSubsequenceOf (map Part ps) (map Part qs) × (g ≡ g')
 sub_start g f l g' f' l' ps qs (inl h) = absurd (no_start qs h)
   where
     no_start : (qs : List ℕ) → IsSubsequenceOf (Sot g f l ∷ map Part ps) (map Part qs) → ⊥

@@ -9,7 +9,8 @@ use Rattle.a429_link.specs.State.{rest}
 use Rattle.a429_link.specs.Sink.{end_word}
 use Rattle.a429_link.specs.Observer.{KeepsRecorded}
 
-start_keeps : (gfi file ldu : ℕ) (kp : SinkPhase) (n : ℕ) → length (kept_words kp) ≤ n → length (kept_words (at_start (empty_block gfi file ldu) kp)) ≤ n
+start_keeps : (gfi file ldu : ℕ) (kp : SinkPhase) (n : ℕ)
+    → length (kept_words kp) ≤ n → length (kept_words (at_start (empty_block gfi file ldu) kp)) ≤ n
 start_keeps g f l Quiet n h = h
 start_keeps g f l OwesClear n h = h
 start_keeps g f l Granted n h = omega arith
@@ -17,7 +18,8 @@ start_keeps g f l (InBlock old) n h = omega arith
 start_keeps g f l (OwesAck old flags) n h = h
 start_keeps g f l OwesNak n h = h
 
-end_keeps : (p : Contents) (last : Option Number) (count flags check : ℕ) (kp : SinkPhase) (n : ℕ) → length (kept_words kp) ≤ n → length (kept_words (at_end p last count (end_word flags check) kp)) ≤ n
+end_keeps : (p : Contents) (last : Option Number) (count flags check : ℕ) (kp : SinkPhase) (n : ℕ)
+    → length (kept_words kp) ≤ n → length (kept_words (at_end p last count (end_word flags check) kp)) ≤ n
 end_keeps p last count flags check Quiet n h = h
 end_keeps p last count flags check OwesClear n h = h
 end_keeps p last count flags check Granted n h = h
@@ -33,7 +35,8 @@ end_keeps p last count flags check OwesNak n h = h
 abbrev pub IsWatched : SinkSide → ℕ → Type 0
 IsWatched k n = (k.sink.received.files ≡ []) × (k.to_sink ≡ []) × KeepsRecorded k.sink.phase n
 
-keeps_others : (p : Contents) (w : ℕ) (x : Form) (k : Sink) (n : ℕ) → ((s : Semis) → x ≡ Part s → ⊥) → KeepsRecorded k.phase n → KeepsRecorded (takes p w x k).phase n
+keeps_others : (p : Contents) (w : ℕ) (x : Form) (k : Sink) (n : ℕ)
+    → ((s : Semis) → x ≡ Part s → ⊥) → KeepsRecorded k.phase n → KeepsRecorded (takes p w x k).phase n
 keeps_others p w (Rts c) k n o h = (omega arith, h.1)
 keeps_others p w (Cts c) k n o h = h
 keeps_others p w (Ack f l) k n o h = h
@@ -56,5 +59,10 @@ abbrev pub after_taking : Contents → Form → SinkSide → SinkSide
 after_taking p x k = record { sink = takes p (slice_index k.to_sink 0) x k.sink; to_sink = rest k.to_sink }
 
 -- a word that is no data word adds none
-pub others_watched : (p : Contents) (w : ℕ) (x : Form) (k : SinkSide) (n : ℕ) → ((s : Semis) → x ≡ Part s → ⊥) → IsWatched k n → IsWatched (after_taking p x (record k { to_sink = k.to_sink ++ w ∷ [] })) n
-others_watched p w x k n o h = (ap (λ (r : Received). r.files) (files_stay p _ x k.sink) ∙ h.0, ap (λ (ws : List ℕ). rest (ws ++ w ∷ [])) h.1, keeps_others p _ x k.sink n o h.2)
+pub others_watched : (p : Contents) (w : ℕ) (x : Form) (k : SinkSide) (n : ℕ)
+    → ((s : Semis) → x ≡ Part s → ⊥) → IsWatched k n → IsWatched (after_taking p x (record k { to_sink = k.to_sink ++ w ∷ [] })) n
+others_watched p w x k n o h = (
+  ap (λ (r : Received). r.files) (files_stay p _ x k.sink) ∙ h.0,
+  ap (λ (ws : List ℕ). rest (ws ++ w ∷ [])) h.1,
+  keeps_others p _ x k.sink n o h.2,
+)

@@ -52,7 +52,15 @@ bare k = record k { received = nothing_received }
 accepts_last : (c : Codes) (kp : SinkPhase) (k : Sink) → (accepts_owed c kp (bare k)).last ≡ (accepts_owed c kp k).last
 accepts_last c (OwesAck b flags) k = by_same (is_same k.last (number_of b))
   where
-    by_same : (t : Bool) → (cond t (bare k) (record (bare k) { last = Some (record { number = number_of b; final = is_final c flags }); received = put b.file (bytes_in c b.words) (is_final c flags) (received_for k.last b.file nothing_received) })).last ≡ (cond t k (record k { last = Some (record { number = number_of b; final = is_final c flags }); received = put b.file (bytes_in c b.words) (is_final c flags) (received_for k.last b.file k.received) })).last
+    by_same : (t : Bool)
+        → (cond t (bare k) (record (bare k) {
+          last = Some (record { number = number_of b; final = is_final c flags });
+          received = put b.file (bytes_in c b.words) (is_final c flags) (received_for k.last b.file nothing_received);
+        })).last
+        ≡ (cond t k (record k {
+          last = Some (record { number = number_of b; final = is_final c flags });
+          received = put b.file (bytes_in c b.words) (is_final c flags) (received_for k.last b.file k.received);
+        })).last
     by_same true = refl
     by_same false = refl
 accepts_last c Quiet k = refl
@@ -76,7 +84,8 @@ answers_watched c (form.Sot g f l) k b m = refl
 answers_watched c (form.Part s) k b m = refl
 answers_watched c (form.Eot f ch) k b m = refl
 
-sees_form_same : (p : Contents) (b : Bus) (w : ℕ) (o : Option Form) (k : Sink) (seen : List Message) → sees_form p b w o (seeing k seen) ≡ seeing (sink_sees_form p b w o k) (see b (message_in w o) seen)
+sees_form_same : (p : Contents) (b : Bus) (w : ℕ) (o : Option Form) (k : Sink) (seen : List Message)
+    → sees_form p b w o (seeing k seen) ≡ seeing (sink_sees_form p b w o k) (see b (message_in w o) seen)
 sees_form_same p bus.A w None k seen = refl
 sees_form_same p bus.B w None k seen = refl
 sees_form_same p bus.A w (Some (form.Sot g f l)) k seen = rw (some_push seen (Sot g f l)) (rw (sot_push seen g f l) refl)
@@ -94,8 +103,10 @@ sees_form_same p bus.B w (Some (form.Sot g f l)) k seen = refl
 sees_form_same p bus.B w (Some (form.Part s)) k seen = refl
 sees_form_same p bus.B w (Some (form.Eot f c)) k seen = refl
 
-pub sees_same : (p : Contents) (i : Seen) (k : Sink) (seen : List Message) → sees p i (seeing k seen) ≡ seeing (sink_sees p i.bus i.word k) (see_item p i seen)
-sees_same p i k seen = sees_form_same p i.bus i.word (form_of p.codes i.bus i.word) k seen ∙ ap (λ q. seeing q (see_item p i seen)) (sym (sees_on_as p i.bus i.word k))
+pub sees_same : (p : Contents) (i : Seen) (k : Sink) (seen : List Message)
+    → sees p i (seeing k seen) ≡ seeing (sink_sees p i.bus i.word k) (see_item p i seen)
+sees_same p i k seen = sees_form_same p i.bus i.word (form_of p.codes i.bus i.word) k seen
+    ∙ ap (λ q. seeing q (see_item p i seen)) (sym (sees_on_as p i.bus i.word k))
 
 has_grant : (kp : SinkPhase) → InGrant kp → HasGrant kp
 has_grant Granted g = tt
@@ -105,7 +116,8 @@ has_grant OwesClear g = absurd g
 has_grant (OwesAck b f) g = absurd g
 has_grant OwesNak g = absurd g
 
-allows_form : (k : Sink) (seen : List Message) (b : Bus) (w : ℕ) (o : Option Form) → AllowsMessage k seen b (message_in w o) → AllowsForm (seeing k seen) b o
+allows_form : (k : Sink) (seen : List Message) (b : Bus) (w : ℕ) (o : Option Form)
+    → AllowsMessage k seen b (message_in w o) → AllowsForm (seeing k seen) b o
 allows_form k seen b w None a = absurd a
 allows_form k seen bus.A w (Some (form.Rts n)) a = tt
 allows_form k seen bus.A w (Some (form.Sot g f l)) a = (has_grant k.phase a.0, ap has_message a.1)
@@ -134,13 +146,16 @@ pub allows_same : (p : Contents) (k : Sink) (seen : List Message) (i : Seen) →
 allows_same p k seen i (inl e) = inl e
 allows_same p k seen i (inr a) = inr (allows_form k seen i.bus i.word (form_of p.codes i.bus i.word) a)
 
-allowed_at : (p : Contents) (items more : List Seen) (k : Sink) (seen : List Message) (i : ℕ) (o : Observer) → o ≡ seeing k seen → AllAllowed p (take (suc i) items ++ more) k seen → AllowsNext p (observed p (take i items) o) (slice_get items i)
+allowed_at : (p : Contents) (items more : List Seen) (k : Sink) (seen : List Message) (i : ℕ) (o : Observer)
+    → o ≡ seeing k seen → AllAllowed p (take (suc i) items ++ more) k seen → AllowsNext p (observed p (take i items) o) (slice_get items i)
 allowed_at p [] more k seen zero o e h = tt
 allowed_at p [] more k seen (suc i) o e h = tt
 allowed_at p (x ∷ items) more k seen zero o e h = subst (λ q. Allows p q x) (sym e) (allows_same p k seen x h.0)
-allowed_at p (x ∷ items) more k seen (suc i) o e h = allowed_at p items more (sink_sees p x.bus x.word k) (see_item p x seen) i (sees p x o) (ap (sees p x) e ∙ sees_same p x k seen) h.1
+allowed_at p (x ∷ items) more k seen (suc i) o e h =
+    allowed_at p items more (sink_sees p x.bus x.word k) (see_item p x seen) i (sees p x o) (ap (sees p x) e ∙ sees_same p x k seen) h.1
 
 -- what the observer refuses begins no trace
 pub impossible : (p : Contents) → IsRead p → (items : List Seen) (i : ℕ) → IsRefused p items i → BeginsARun p (take (suc i) items) → ⊥
 impossible p good items i refused r =
-    refused (allowed_at p items r.more sink_at_first [] i at_first refl (subst (λ t. AllAllowed p t sink_at_first []) r.records (trace_allowed p good r.first r.byte r.steps r.run)))
+    refused (allowed_at p items r.more sink_at_first [] i at_first refl
+    (subst (λ t. AllAllowed p t sink_at_first []) r.records (trace_allowed p good r.first r.byte r.steps r.run)))

@@ -52,7 +52,15 @@ abbrev not_final : LduValue → LduValue
 not_final u = record u { flags = 0 }
 
 not_final_sound : (p : Contents) (u : LduValue) → IsLdu p u → IsLdu p (not_final u)
-not_final_sound p u h = record { gfi = h.gfi; flags = omega arith; check = h.check; length = h.length; bytes = h.bytes; carries = h.carries; checked = h.checked }
+not_final_sound p u h = record {
+  gfi = h.gfi;
+  flags = omega arith;
+  check = h.check;
+  length = h.length;
+  bytes = h.bytes;
+  carries = h.carries;
+  checked = h.checked;
+}
 
 is_not_final : (c : Codes) → is_final c 0 ≡ false
 is_not_final c = rw (bit_at-zero (c.final_bit - 25)) refl
@@ -65,7 +73,8 @@ comes_first : (p : Contents) (n : UnitNumber) → n.file ≤ 255 → n.ldu ≡ p
 comes_first p n byte l = record { new = refl; follows = eq-eqb n.ldu p.codes.first_ldu l; byte = byte; room = omega arith; kept = refl }
 
 -- by link data units of the same file, each of them acknowledged
-came_in_file : (p : Contents) → IsProfile p → IsRead p → (u : LduValue) → IsLdu p u → (file d l : ℕ) → file ≤ 255 → d ≤ 254 → l ≡ p.codes.first_ldu + d → Came p (in_file file l) 0
+came_in_file : (p : Contents) → IsProfile p → IsRead p → (u : LduValue) → IsLdu p u → (file d l : ℕ) → file ≤ 255 → d ≤ 254
+    → l ≡ p.codes.first_ldu + d → Came p (in_file file l) 0
 came_in_file p is good u h file zero l byte few e =
     let first : l ≡ p.codes.first_ldu = omega arith in
     record {
@@ -86,8 +95,10 @@ came_in_file p is good u h file (suc d) l byte few e =
     let r = came_in_file p is good u h file d before byte (omega arith) refl in
     let unit = not_final_sound p u h in
     let one = block_goes p good n v unit (sound p is v unit) r.last r.received r.count r.comes in
-    let number : number_after p.codes n v ≡ in_file file l = ap (next_number p.codes n) (is_not_final p.codes) ∙ ap (in_file file) (next_ldu before (omega arith) ∙ omega arith) in
-    let room : (number_after p.codes n v).ldu ≤ p.codes.first_ldu + 254 = subst (λ (m : UnitNumber). m.ldu ≤ p.codes.first_ldu + 254) (sym number) (omega arith) in
+    let number : number_after p.codes n v ≡ in_file file l =
+    ap (next_number p.codes n) (is_not_final p.codes) ∙ ap (in_file file) (next_ldu before (omega arith) ∙ omega arith) in
+    let room : (number_after p.codes n v).ldu ≤ p.codes.first_ldu + 254 =
+    subst (λ (m : UnitNumber). m.ldu ≤ p.codes.first_ldu + 254) (sym number) (omega arith) in
     let next = next_comes p good n (bytes_in p.codes v.words) (is_final p.codes 0) r.received byte (omega arith) room in
     subst (λ m. Came p m 0) number (record {
       first = r.first;
@@ -123,7 +134,9 @@ came p is good t r = by r.given_up
     by (inl none) =
         let low = r.low in
         let high = r.sound.ldu in
-        subst (λ g. Came p t.number g) (sym none) (came_in_file p is good t.unit r.sound.unit t.number.file (t.number.ldu - p.codes.first_ldu) t.number.ldu r.sound.file (omega arith) (omega arith))
+        subst (λ g. Came p t.number g) (sym none)
+        (came_in_file p is good t.unit r.sound.unit t.number.file (t.number.ldu - p.codes.first_ldu) t.number.ldu r.sound.file (omega arith)
+        (omega arith))
     by (inr first) = came_past p t.number t.give_ups r.sound.file (let few = r.sound.give_ups in omega arith) first
 
 -- ---- the acknowledgement
@@ -136,7 +149,8 @@ record Acked (p : Contents) (t : Assigned) : Type 0 where
   received : Received
   word : ℕ
   says : message_of p bus.B word ≡ Some (Ack t.number.file t.number.ldu)
-  goes : Goes p steps (start p first) (standing (source_of t Waiting) (sink_at (Some (accepted_as p.codes t)) received (count_of t.unit) Quiet) (word ∷ []))
+  goes : Goes p steps (start p first)
+      (standing (source_of t Waiting) (sink_at (Some (accepted_as p.codes t)) received (count_of t.unit) Quiet) (word ∷ []))
 
 acked_at : (p : Contents) → IsProfile p → IsRead p → (t : Assigned) → IsReachable p t → Acked p t
 acked_at p is good t reachable =
@@ -150,10 +164,15 @@ acked_at p is good t reachable =
     let byte = reachable.sound.file in
     let room = reachable.sound.ldu in
     let low = good.first in
-    let says : message_of p bus.B w ≡ Some (Ack number.file number.ldu) = good.reads bus.B (Ack number.file number.ldu) (byte, omega arith) in
+    let says : message_of p bus.B w ≡ Some (Ack number.file number.ldu) =
+    good.reads bus.B (Ack number.file number.ldu) (byte, omega arith) in
     let kept = put number.file (bytes_in p.codes u.words) (is_final p.codes u.flags) r.received in
-    let accepted : answers_message p (Ack number.file number.ldu) k ≡ sink_at (Some (accepted_as p.codes t)) kept (count_of u) Quiet = subst (λ o. answers_message p (Ack number.file number.ldu) k ≡ sink_at (Some (accepted_as p.codes t)) (put number.file (bytes_in p.codes u.words) (is_final p.codes u.flags) o) (count_of u) Quiet) r.comes.kept (rw r.comes.new refl) in
-    let answer : Goes p (Answered (on_b w) ∷ []) (at t.give_ups number (Some u) Waiting k) (standing (source_of t Waiting) (sink_at (Some (accepted_as p.codes t)) kept (count_of u) Quiet) (w ∷ [])) = record {
+    let accepted : answers_message p (Ack number.file number.ldu) k ≡ sink_at (Some (accepted_as p.codes t)) kept (count_of u) Quiet =
+    subst (λ o. answers_message p (Ack number.file number.ldu) k ≡ sink_at (Some (accepted_as p.codes t))
+    (put number.file (bytes_in p.codes u.words) (is_final p.codes u.flags) o) (count_of u) Quiet) r.comes.kept (rw r.comes.new refl) in
+    let answer : Goes p (Answered (on_b w) ∷ []) (at t.give_ups number (Some u) Waiting k)
+    (standing (source_of t Waiting) (sink_at (Some (accepted_as p.codes t)) kept (count_of u) Quiet) (w ∷ [])) =
+    record {
       run = ((refl, may_say k.count w k.phase (Ack number.file number.ldu) (form_of p.codes bus.B w) (refl, refl) says), tt);
       ends = ap (λ z. standing (source_of t Waiting) z (w ∷ [])) (answers_as p w (Ack number.file number.ldu) k says ∙ accepted);
     } in
@@ -170,24 +189,35 @@ acked_at p is good t reachable =
 -- ---- and then these words
 
 -- the attempts after the first one
-behind_first : (p : Contents) (t : Assigned) (i : Seen) (items : List Seen) (n : ℕ) (units : List Assigned) → asks i.bus (form_of p.codes i.bus i.word) ≡ Some n → IsOf p (Some t) (acked_attempt t) → AreAssigned p (Some t) true (rest (attempts_from p (fresh 0) (i ∷ items))) units → GoOnAssigned p (Some t) (attempts_from p (acked_attempt t) (i ∷ items)) units
+behind_first : (p : Contents) (t : Assigned) (i : Seen) (items : List Seen) (n : ℕ) (units : List Assigned)
+    → asks i.bus (form_of p.codes i.bus i.word) ≡ Some n → IsOf p (Some t) (acked_attempt t)
+    → AreAssigned p (Some t) true (rest (attempts_from p (fresh 0) (i ∷ items))) units
+    → GoOnAssigned p (Some t) (attempts_from p (acked_attempt t) (i ∷ items)) units
 behind_first p t i items n units e of h = by (asks i.bus (form_of p.codes i.bus i.word)) e h
   where
-    by : (o : Option ℕ) → o ≡ Some n → AreAssigned p (Some t) true (rest (goes_on_to i (form_of p.codes i.bus i.word) (fresh 0) o (λ c. attempts_from p c items))) units → GoOnAssigned p (Some t) (goes_on_to i (form_of p.codes i.bus i.word) (acked_attempt t) o (λ c. attempts_from p c items)) units
+    by : (o : Option ℕ) → o ≡ Some n
+        → AreAssigned p (Some t) true (rest (goes_on_to i (form_of p.codes i.bus i.word) (fresh 0) o (λ c. attempts_from p c items))) units
+        → GoOnAssigned p (Some t) (goes_on_to i (form_of p.codes i.bus i.word) (acked_attempt t) o (λ c. attempts_from p c items)) units
     by None e h = absurd (cc e)
     by (Some m) e h = (of, h)
 
-followed : (p : Contents) → IsProfile p → IsRead p → (i : Seen) (items : List Seen) (n : ℕ) → asks i.bus (form_of p.codes i.bus i.word) ≡ Some n → FollowsUnit p (i ∷ items) → IsPartOfARun p (i ∷ items)
+followed : (p : Contents) → IsProfile p → IsRead p → (i : Seen) (items : List Seen) (n : ℕ)
+    → asks i.bus (form_of p.codes i.bus i.word) ≡ Some n → FollowsUnit p (i ∷ items) → IsPartOfARun p (i ∷ items)
 followed p is good i items n q f =
     let t = f.last in
     let a = acked_at p is good t f.reachable in
     let k = sink_at (Some (accepted_as p.codes t)) a.received (count_of t.unit) Quiet in
     let s = standing (source_of t Waiting) k (a.word ∷ []) in
-    let holds : HoldsAt p s = subst (HoldsAt p) a.goes.ends (holds_after p good a.steps (start p a.first) a.goes.run (start_holds p a.first a.byte)) in
+    let holds : HoldsAt p s =
+    subst (HoldsAt p) a.goes.ends (holds_after p good a.steps (start p a.first) a.goes.run (start_holds p a.first a.byte)) in
     let allowed = allowed_by_last p good i n items (observer_past (accepted_as p.codes t)) (seeing k []) q refl f.allowed in
-    let of : IsOf p (Some t) (acked_attempt t) = (record { asked = refl; words = sub_none (block_of p.codes t.unit t.number.file t.number.ldu) }, refl) in
-    let place : Place p (Some t) (acked_attempt t) (source_of t Waiting) (a.word ∷ []) k f.units = in_attempt refl (is_answered (λ ok. a.says)) in
-    let r = replay p is good (i ∷ items) (seeing k []) k [] (Some t) (acked_attempt t) (source_of t Waiting) (a.word ∷ []) f.units refl allowed holds place (behind_first p t i items n f.units q of f.are) in
+    let of : IsOf p (Some t) (acked_attempt t) =
+    (record { asked = refl; words = sub_none (block_of p.codes t.unit t.number.file t.number.ldu) }, refl) in
+    let place : Place p (Some t) (acked_attempt t) (source_of t Waiting) (a.word ∷ []) k f.units =
+    in_attempt refl (is_answered (λ ok. a.says)) in
+    let r =
+    replay p is good (i ∷ items) (seeing k []) k [] (Some t) (acked_attempt t) (source_of t Waiting)
+    (a.word ∷ []) f.units refl allowed holds place (behind_first p t i items n f.units q of f.are) in
     record {
       first = a.first;
       byte = a.byte;
@@ -198,7 +228,10 @@ followed p is good i items n q f =
       records = trace_append a.steps r.way.steps ∙ ap (λ l. trace a.steps ++ l) (r.way.records ∙ sym (append-nil (i ∷ items)));
     }
 
-pub piece_run : (p : Contents) → IsProfile p → IsRead p → (items : List Seen) → BeginsWithRequest p items → BeginsARun p items ⊎ FollowsUnit p items → IsPartOfARun p items
-piece_run p is good items begins (inl r) = record { first = r.first; byte = r.byte; steps = r.steps; run = r.run; before = []; more = r.more; records = r.records }
+pub piece_run : (p : Contents) → IsProfile p → IsRead p → (items : List Seen) → BeginsWithRequest p items
+    → BeginsARun p items ⊎ FollowsUnit p items → IsPartOfARun p items
+piece_run p is good items begins (inl r) =
+    record { first = r.first; byte = r.byte; steps = r.steps; run = r.run; before = []; more = r.more; records = r.records }
 piece_run p is good [] begins (inr f) = absurd begins
-piece_run p is good (i ∷ items) begins (inr f) = let asked = asked_count (asks i.bus (form_of p.codes i.bus i.word)) begins in followed p is good i items asked.0 asked.1 f
+piece_run p is good (i ∷ items) begins (inr f) =
+    let asked = asked_count (asks i.bus (form_of p.codes i.bus i.word)) begins in followed p is good i items asked.0 asked.1 f

@@ -38,13 +38,15 @@ pub record Behind (number : UnitNumber) (g : ℕ) (last : Option Number) (receiv
   pub settled : IsSubsequenceOf fs received.files
 
 -- the current link data unit is still to be accepted
-pub record Ahead (p : Contents) (number : UnitNumber) (g : ℕ) (u : LduValue) (last : Option Number) (received o : Received) (fs : List FileBytes) : Type 0 where
+pub record Ahead (p : Contents) (number : UnitNumber) (g : ℕ) (u : LduValue) (last : Option Number) (received o : Received)
+    (fs : List FileBytes) : Type 0 where
   pub before : Received
   pub with_it : o ≡ put number.file (bytes_in p.codes u.words) (is_final p.codes u.flags) before
   pub behind : Behind number g last received before fs
 
 -- it is accepted
-pub record Accepted (p : Contents) (number : UnitNumber) (u : LduValue) (last : Option Number) (received o : Received) (fs : List FileBytes) : Type 0 where
+pub record Accepted (p : Contents) (number : UnitNumber) (u : LduValue) (last : Option Number) (received o : Received)
+    (fs : List FileBytes) : Type 0 where
   pub some : IsSubsequenceOf received.files o.files
   pub opened : received.open_bytes ≡ o.open_bytes
   pub closed : is_final p.codes u.flags ≡ true → received.open_bytes ≡ []
@@ -72,7 +74,8 @@ pub record Room (p : Contents) (ldu : ℕ) (cur : Option LduValue) : Type 0 wher
   pub low : p.codes.first_ldu ≤ ldu
   pub more : (u : LduValue) → cur ≡ Some u → (ldu ≤ p.codes.first_ldu + 254) × (length (bytes_in p.codes u.words) ≤ 632)
 
-pub record Crosses (p : Contents) (source : Source) (last : Option Number) (received : Received) (vs : List ℕ) (o : Received) (fs : List FileBytes) : Type 0 where
+pub record Crosses (p : Contents) (source : Source) (last : Option Number) (received : Received) (vs : List ℕ) (o : Received)
+    (fs : List FileBytes) : Type 0 where
   pub few : source.give_ups ≤ 127
   pub stand : Stand p source.number source.give_ups source.current last received o fs
   pub accepted : HasAck p vs → HasAccepted p source.number source.current last received o fs
@@ -87,19 +90,26 @@ no_ack p [] e h = h
 no_ack p (v ∷ vs) e h = cc e
 
 -- where the source is idle no answer is on the way
-idle_alone : (number : UnitNumber) (cur : Option LduValue) (sp : SourceState) (count : ℕ) (kp : SinkPhase) (xs ys : List Message) → IsIdle sp → Config number cur sp count kp xs ys → ys ≡ []
+idle_alone : (number : UnitNumber) (cur : Option LduValue) (sp : SourceState) (count : ℕ) (kp : SinkPhase) (xs ys : List Message)
+    → IsIdle sp → Config number cur sp count kp xs ys → ys ≡ []
 idle_alone number cur sp count kp xs ys i (idle f s) = refl
 idle_alone number cur sp count kp xs ys i _ = absurd i
 
 -- other answers are on the way
-with_answers : (p : Contents) (source : Source) (last : Option Number) (received : Received) (vs ws : List ℕ) (o : Received) (fs : List FileBytes) → (HasAck p ws → ⊥) → Crosses p source last received vs o fs → Crosses p source last received ws o fs
-with_answers p source last received vs ws o fs none c = record { few = c.few; stand = c.stand; accepted = λ h. absurd (none h); room = c.room; fits = c.fits }
+with_answers : (p : Contents) (source : Source) (last : Option Number) (received : Received) (vs ws : List ℕ) (o : Received)
+    (fs : List FileBytes) → (HasAck p ws → ⊥) → Crosses p source last received vs o fs → Crosses p source last received ws o fs
+with_answers p source last received vs ws o fs none c =
+    record { few = c.few; stand = c.stand; accepted = λ h. absurd (none h); room = c.room; fits = c.fits }
 
 -- the source is in another phase
-in_phase : (p : Contents) (source : Source) (phase : SourceState) (last : Option Number) (received : Received) (vs : List ℕ) (o : Received) (fs : List FileBytes) → Crosses p source last received vs o fs → Crosses p (record source { phase = phase }) last received vs o fs
-in_phase p source phase last received vs o fs c = record { few = c.few; stand = c.stand; accepted = c.accepted; room = c.room; fits = c.fits }
+in_phase : (p : Contents) (source : Source) (phase : SourceState) (last : Option Number) (received : Received) (vs : List ℕ) (o : Received)
+    (fs : List FileBytes) → Crosses p source last received vs o fs → Crosses p (record source { phase = phase }) last received vs o fs
+in_phase p source phase last received vs o fs c =
+    record { few = c.few; stand = c.stand; accepted = c.accepted; room = c.room; fits = c.fits }
 
-load_crosses : (p : Contents) → IsRead p → (s : State) (u : LduValue) (o : Received) (fs : List FileBytes) → Can p (Load u) s → HoldsAt p s → (cur : Option LduValue) → s.source.current ≡ cur → cur ≡ None → CrossesAt p s o fs → CrossesAt p (after p (Load u) s) (put s.source.number.file (bytes_in p.codes u.words) (is_final p.codes u.flags) o) fs
+load_crosses : (p : Contents) → IsRead p → (s : State) (u : LduValue) (o : Received) (fs : List FileBytes) → Can p (Load u) s → HoldsAt p s
+    → (cur : Option LduValue) → s.source.current ≡ cur → cur ≡ None → CrossesAt p s o fs
+    → CrossesAt p (after p (Load u) s) (put s.source.number.file (bytes_in p.codes u.words) (is_final p.codes u.flags) o) fs
 load_crosses p good s u o fs i h (Some v) e n c = absurd (cc n)
 load_crosses p good s u o fs i h None e n c =
     let stand = subst (λ x. Stand p s.source.number s.source.give_ups x s.sink.last s.sink.received o fs) e c.stand in
@@ -108,23 +118,40 @@ load_crosses p good s u o fs i h None e n c =
       few = c.few;
       stand = inl (record { before = o; with_it = refl; behind = stand });
       accepted = λ a. absurd (no_ack p s.to_source alone a);
-      room = record { low = c.room.low; more = λ v q. (i.2, let same : u ≡ v = cc in subst (λ (x : LduValue). length (bytes_in p.codes x.words) ≤ 632) same (good.fit u i.3).bytes_room) };
+      room = record {
+        low = c.room.low;
+        more = λ v q. (
+          i.2,
+          let same : u ≡ v = cc in subst (λ (x : LduValue). length (bytes_in p.codes x.words) ≤ 632) same (good.fit u i.3).bytes_room,
+        );
+      };
       fits = c.fits;
     }
 
 -- ---- a file is given up
 
-settled_before : (t : Bool) (fs : List FileBytes) (o received : Received) → IsSubsequenceOf (cond t (fs ++ newest o.files) fs) received.files → IsSubsequenceOf fs received.files
+settled_before : (t : Bool) (fs : List FileBytes) (o received : Received)
+    → IsSubsequenceOf (cond t (fs ++ newest o.files) fs) received.files → IsSubsequenceOf fs received.files
 settled_before true fs o received h = sub_forth fs (newest o.files) received.files h
 settled_before false fs o received h = h
 
-give_up_stand : (p : Contents) (number : UnitNumber) (g : ℕ) (cur : Option LduValue) (last : Option Number) (received o : Received) (fs : List FileBytes) → g ≤ 126 → Stand p number g cur last received o fs → Behind (first_number p.codes ((number.file + 1) % 256)) (suc g) last received (emptied o) fs
+give_up_stand : (p : Contents) (number : UnitNumber) (g : ℕ) (cur : Option LduValue) (last : Option Number) (received o : Received)
+    (fs : List FileBytes)
+    → g ≤ 126 → Stand p number g cur last received o fs
+    → Behind (first_number p.codes ((number.file + 1) % 256)) (suc g) last received (emptied o) fs
 give_up_stand p number g None last received o fs l b =
-    record { some = b.some; opened = past_emptied last number g received l b.past; past = past_given_up p.codes last number g b.past; settled = b.settled }
+    record {
+      some = b.some;
+      opened = past_emptied last number g received l b.past;
+      past = past_given_up p.codes last number g b.past;
+      settled = b.settled;
+    }
 give_up_stand p number g (Some u) last received o fs l (inl a) =
     let b = a.behind in
     record {
-      some = subst (λ (x : Received). IsSubsequenceOf received.files x.files) (sym a.with_it) (put_second number.file (bytes_in p.codes u.words) (is_final p.codes u.flags) received.files a.before b.some);
+      some =
+          subst (λ (x : Received). IsSubsequenceOf received.files x.files) (sym a.with_it)
+          (put_second number.file (bytes_in p.codes u.words) (is_final p.codes u.flags) received.files a.before b.some);
       opened = past_emptied last number g received l b.past;
       past = past_given_up p.codes last number g b.past;
       settled = b.settled;
@@ -134,7 +161,9 @@ give_up_stand p number g (Some u) last received o fs l (inr a) =
     let now : Past (Some (unit_number p.codes number u)) next (suc g) = inr (1, omega arith, omega arith, refl) in
     record {
       some = a.some;
-      opened = subst (λ n. (received_for n ((number.file + 1) % 256) received).open_bytes ≡ []) (sym a.last_is) (by_file (eqb number.file ((number.file + 1) % 256)) refl);
+      opened =
+          subst (λ n. (received_for n ((number.file + 1) % 256) received).open_bytes ≡ []) (sym a.last_is)
+          (by_file (eqb number.file ((number.file + 1) % 256)) refl);
       past = subst (λ n. Past n next (suc g)) (sym a.last_is) now;
       settled = settled_before (is_final p.codes u.flags) fs o received a.settled;
     }
@@ -143,7 +172,8 @@ give_up_stand p number g (Some u) last received o fs l (inr a) =
     by_file true e = absurd (other_file number.file 1 (omega arith) (omega arith) (eqb-true number.file ((number.file + 1) % 256) e))
     by_file false e = refl
 
-give_up_crosses : (p : Contents) (s : State) (o : Received) (fs : List FileBytes) → Can p GiveUp s → HoldsAt p s → CrossesAt p s o fs → CrossesAt p (after p GiveUp s) (emptied o) fs
+give_up_crosses : (p : Contents) (s : State) (o : Received) (fs : List FileBytes)
+    → Can p GiveUp s → HoldsAt p s → CrossesAt p s o fs → CrossesAt p (after p GiveUp s) (emptied o) fs
 give_up_crosses p s o fs i h c =
     let few = i.1 in
     let alone = none_say p bus.B s.to_source h.ys h.source_words (idle_alone _ _ _ _ _ _ _ i.0 h.fits) in
@@ -157,7 +187,10 @@ give_up_crosses p s o fs i h c =
 
 -- ---- answers
 
-hear_final : (p : Contents) → IsRead p → (number : UnitNumber) (u : LduValue) (t : Bool) (last : Option Number) (received o : Received) (fs : List FileBytes) → is_final p.codes u.flags ≡ t → Accepted p number u last received o fs → Room p number.ldu (Some u) → Fits p.codes.first_ldu last received.open_bytes → Crosses p (source_at 0 (next_number p.codes number t) None Idle) last received [] o (cond t (fs ++ newest o.files) fs)
+hear_final : (p : Contents) → IsRead p → (number : UnitNumber) (u : LduValue) (t : Bool) (last : Option Number) (received o : Received)
+    (fs : List FileBytes) → is_final p.codes u.flags ≡ t → Accepted p number u last received o fs → Room p number.ldu (Some u)
+    → Fits p.codes.first_ldu last received.open_bytes
+    → Crosses p (source_at 0 (next_number p.codes number t) None Idle) last received [] o (cond t (fs ++ newest o.files) fs)
 hear_final p good number u t last received o fs q a r f = record {
   few = omega arith;
   stand = record {
@@ -185,42 +218,74 @@ hear_final p good number u t last received o fs q a r f = record {
     here true e = a.opened
     here false e = absurd (cc e)
 
-    opened : (t : Bool) → is_final p.codes u.flags ≡ t → (received_for last (next_number p.codes number t).file received).open_bytes ≡ o.open_bytes
+    opened : (t : Bool)
+        → is_final p.codes u.flags ≡ t → (received_for last (next_number p.codes number t).file received).open_bytes ≡ o.open_bytes
     opened true q = received_for_nothing last ((number.file + 1) % 256) received (a.closed q) ∙ sym (a.closed q) ∙ a.opened
-    opened false q = subst (λ n. (received_for n number.file received).open_bytes ≡ o.open_bytes) (sym a.last_is) (here (eqb number.file number.file) (eq-eqb number.file number.file refl))
+    opened false q =
+        subst (λ n. (received_for n number.file received).open_bytes ≡ o.open_bytes) (sym a.last_is)
+        (here (eqb number.file number.file) (eq-eqb number.file number.file refl))
 
-hear_ack : (p : Contents) → IsRead p → (g : ℕ) (number : UnitNumber) (u : LduValue) (t : Bool) (last : Option Number) (received : Received) (vs : List ℕ) (o : Received) (fs : List FileBytes) → (c : Crosses p (source_at g number (Some u) Waiting) last received vs o fs) → Accepted p number u last received o fs → Crosses p (cond t (acknowledged p.codes u (source_at g number (Some u) Waiting)) (source_at g number (Some u) Waiting)) last received [] o (cond (t && is_final p.codes u.flags) (fs ++ newest o.files) fs)
-hear_ack p good g number u true last received vs o fs c a = hear_final p good number u (is_final p.codes u.flags) last received o fs refl a c.room c.fits
+hear_ack : (p : Contents) → IsRead p → (g : ℕ) (number : UnitNumber) (u : LduValue) (t : Bool) (last : Option Number) (received : Received)
+    (vs : List ℕ) (o : Received) (fs : List FileBytes)
+    → (c : Crosses p (source_at g number (Some u) Waiting) last received vs o fs) → Accepted p number u last received o fs
+    → Crosses p (cond t (acknowledged p.codes u (source_at g number (Some u) Waiting)) (source_at g number (Some u) Waiting)) last received
+    [] o (cond (t && is_final p.codes u.flags) (fs ++ newest o.files) fs)
+hear_ack p good g number u true last received vs o fs c a =
+    hear_final p good number u (is_final p.codes u.flags) last received o fs refl a c.room c.fits
 hear_ack p good g number u false last received vs o fs c a = with_answers p _ last received vs [] o fs (λ h. h) c
 
-hear_clear : (p : Contents) (g : ℕ) (number : UnitNumber) (u : LduValue) (t : Bool) (last : Option Number) (received : Received) (vs : List ℕ) (o : Received) (fs : List FileBytes) → (c : Crosses p (source_at g number (Some u) Awaiting) last received vs o fs) → Crosses p (cond t (record (source_at g number (Some u) Awaiting) { phase = Sending 0 }) (source_at g number (Some u) Awaiting)) last received [] o fs
-hear_clear p g number u true last received vs o fs c = with_answers p _ last received vs [] o fs (λ h. h) (in_phase p _ (Sending 0) last received vs o fs c)
+hear_clear : (p : Contents) (g : ℕ) (number : UnitNumber) (u : LduValue) (t : Bool) (last : Option Number) (received : Received)
+    (vs : List ℕ) (o : Received) (fs : List FileBytes)
+    → (c : Crosses p (source_at g number (Some u) Awaiting) last received vs o fs)
+    → Crosses p (cond t (record (source_at g number (Some u) Awaiting) { phase = Sending 0 }) (source_at g number (Some u) Awaiting)) last
+    received [] o fs
+hear_clear p g number u true last received vs o fs c =
+    with_answers p _ last received vs [] o fs (λ h. h) (in_phase p _ (Sending 0) last received vs o fs c)
 hear_clear p g number u false last received vs o fs c = with_answers p _ last received vs [] o fs (λ h. h) c
 
 -- the answer that is taken, by its form
-hear_form : (p : Contents) → IsRead p → (g : ℕ) (number : UnitNumber) (cur : Option LduValue) (sp : SourceState) (count : ℕ) (kp : SinkPhase) (xs : List Message) (y : Message) (ys : List Message) (last : Option Number) (received : Received) (v : ℕ) (vs : List ℕ) (o : Received) (fs : List FileBytes) → message_of p bus.B v ≡ Some y → Config number cur sp count kp xs (y ∷ ys) → Crosses p (source_at g number cur sp) last received (v ∷ vs) o fs → Crosses p (with_answer_message p cur sp y (source_at g number cur sp)) last received [] o (cond (is_own_ack_seen (source_at g number cur sp) (Some y) && is_final_unit p.codes cur) (fs ++ newest o.files) fs)
-hear_form p good g number cur sp count kp xs y ys last received v vs o fs e (cleared {u} {n} r q) c = hear_clear p g number u (eqb n (count_of u)) last received (v ∷ vs) o fs c
-hear_form p good g number cur sp count kp xs y ys last received v vs o fs e (refused r) c = with_answers p _ last received (v ∷ vs) [] o fs (λ h. h) (in_phase p _ Idle last received (v ∷ vs) o fs c)
+hear_form : (p : Contents) → IsRead p → (g : ℕ) (number : UnitNumber) (cur : Option LduValue) (sp : SourceState) (count : ℕ)
+    (kp : SinkPhase) (xs : List Message) (y : Message) (ys : List Message) (last : Option Number) (received : Received) (v : ℕ)
+    (vs : List ℕ) (o : Received) (fs : List FileBytes) → message_of p bus.B v ≡ Some y → Config number cur sp count kp xs (y ∷ ys)
+    → Crosses p (source_at g number cur sp) last received (v ∷ vs) o fs
+    → Crosses p (with_answer_message p cur sp y (source_at g number cur sp)) last received [] o
+    (cond (is_own_ack_seen (source_at g number cur sp) (Some y) && is_final_unit p.codes cur) (fs ++ newest o.files) fs)
+hear_form p good g number cur sp count kp xs y ys last received v vs o fs e (cleared {u} {n} r q) c =
+    hear_clear p g number u (eqb n (count_of u)) last received (v ∷ vs) o fs c
+hear_form p good g number cur sp count kp xs y ys last received v vs o fs e (refused r) c =
+    with_answers p _ last received (v ∷ vs) [] o fs (λ h. h) (in_phase p _ Idle last received (v ∷ vs) o fs c)
 hear_form p good g number cur sp count kp xs y ys last received v vs o fs e (acked {u} {f} {l} r ef el) c =
     hear_ack p good g number u (eqb f number.file && eqb l number.ldu) last received (v ∷ vs) o fs c (c.accepted (subst IsAck (sym e) tt))
 
-pub one_answer : (number : UnitNumber) (cur : Option LduValue) (sp : SourceState) (count : ℕ) (kp : SinkPhase) (xs : List Message) (y : Message) (ys : List Message) → Config number cur sp count kp xs (y ∷ ys) → ys ≡ []
+pub one_answer : (number : UnitNumber) (cur : Option LduValue) (sp : SourceState) (count : ℕ) (kp : SinkPhase) (xs : List Message)
+    (y : Message) (ys : List Message) → Config number cur sp count kp xs (y ∷ ys) → ys ≡ []
 one_answer number cur sp count kp xs y ys (cleared r q) = refl
 one_answer number cur sp count kp xs y ys (refused r) = refl
 one_answer number cur sp count kp xs y ys (acked r f l) = refl
 
-hear_crosses : (p : Contents) → IsRead p → (source : Source) (k : Sink) (vs : List ℕ) (xs ys : List Message) (o : Received) (fs : List FileBytes) → IsNonEmpty vs → AllSay p bus.B vs ys → Config source.number source.current source.phase k.count k.phase xs ys → Crosses p source k.last k.received vs o fs → Crosses p (with_answer_first p.codes vs source) k.last k.received (rest vs) o (cond (ends_file p.codes source vs) (fs ++ newest o.files) fs)
+hear_crosses : (p : Contents) → IsRead p → (source : Source) (k : Sink) (vs : List ℕ) (xs ys : List Message) (o : Received)
+    (fs : List FileBytes) → IsNonEmpty vs → AllSay p bus.B vs ys → Config source.number source.current source.phase k.count k.phase xs ys
+    → Crosses p source k.last k.received vs o fs
+    → Crosses p (with_answer_first p.codes vs source) k.last k.received (rest vs) o
+    (cond (ends_file p.codes source vs) (fs ++ newest o.files) fs)
 hear_crosses p good source k [] xs ys o fs n d h c = absurd n
 hear_crosses p good source k (v ∷ vs) xs [] o fs n d h c = absurd d
 hear_crosses p good source k (v ∷ vs) xs (y ∷ ys) o fs n d h c =
     let none : vs ≡ [] = none_say p bus.B vs ys d.1 (one_answer _ _ _ _ _ _ y ys h) in
-    let own : is_own_ack_form source (form_of p.codes bus.B v) ≡ is_own_ack_seen source (Some y) = own_ack_join v (form_of p.codes bus.B v) source ∙ ap (is_own_ack_seen source) d.0 in
-    subst (λ q. Crosses p q k.last k.received vs o (cond (ends_file p.codes source (v ∷ vs)) (fs ++ newest o.files) fs)) (sym (with_answer_as p v y source d.0))
-    (subst (λ q. Crosses p (with_answer_message p source.current source.phase y source) k.last k.received vs o (cond (q && is_final_unit p.codes source.current) (fs ++ newest o.files) fs)) (sym own)
-    (subst (λ l. Crosses p (with_answer_message p source.current source.phase y source) k.last k.received l o (cond (is_own_ack_seen source (Some y) && is_final_unit p.codes source.current) (fs ++ newest o.files) fs)) (sym none)
-    (hear_form p good source.give_ups source.number source.current source.phase k.count k.phase xs y ys k.last k.received v vs o fs d.0 h c)))
+    let own : is_own_ack_form source (form_of p.codes bus.B v) ≡ is_own_ack_seen source (Some y) =
+    own_ack_join v (form_of p.codes bus.B v) source ∙ ap (is_own_ack_seen source) d.0 in
+    subst (λ q. Crosses p q k.last k.received vs o (cond (ends_file p.codes source (v ∷ vs)) (fs ++ newest o.files) fs))
+    (sym (with_answer_as p v y source d.0))
+    (subst (λ q. Crosses p (with_answer_message p source.current source.phase y source) k.last k.received vs o
+    (cond (q && is_final_unit p.codes source.current) (fs ++ newest o.files) fs)) (sym own)
+    (subst (λ l. Crosses p (with_answer_message p source.current source.phase y source) k.last k.received l o
+    (cond (is_own_ack_seen source (Some y) && is_final_unit p.codes source.current) (fs ++ newest o.files) fs)) (sym none)
+    (hear_form p good source.give_ups source.number source.current source.phase k.count k.phase xs y ys k.last k.received v vs o fs d.0 h
+    c)))
 
-lose_crosses : (p : Contents) → (source : Source) (k : Sink) (vs : List ℕ) (xs ys : List Message) (o : Received) (fs : List FileBytes) → IsNonEmpty vs → AllSay p bus.B vs ys → Config source.number source.current source.phase k.count k.phase xs ys → Crosses p source k.last k.received vs o fs → Crosses p source k.last k.received (rest vs) o fs
+lose_crosses : (p : Contents) → (source : Source) (k : Sink) (vs : List ℕ) (xs ys : List Message) (o : Received) (fs : List FileBytes)
+    → IsNonEmpty vs → AllSay p bus.B vs ys → Config source.number source.current source.phase k.count k.phase xs ys
+    → Crosses p source k.last k.received vs o fs → Crosses p source k.last k.received (rest vs) o fs
 lose_crosses p source k [] xs ys o fs n d h c = absurd n
 lose_crosses p source k (v ∷ vs) xs [] o fs n d h c = absurd d
 lose_crosses p source k (v ∷ vs) xs (y ∷ ys) o fs n d h c =
@@ -233,25 +298,35 @@ takes_last p w None k = refl
 takes_last p w (Some (form.Rts n)) k = refl
 takes_last p w (Some _) k = refl
 
-takes_crosses : (p : Contents) (source : Source) (k : Sink) (ws vs : List ℕ) (o : Received) (fs : List FileBytes) → Crosses p source k.last k.received vs o fs → Crosses p source (takes_first p ws k).last (takes_first p ws k).received vs o fs
+takes_crosses : (p : Contents) (source : Source) (k : Sink) (ws vs : List ℕ) (o : Received) (fs : List FileBytes)
+    → Crosses p source k.last k.received vs o fs → Crosses p source (takes_first p ws k).last (takes_first p ws k).received vs o fs
 takes_crosses p source k [] vs o fs c = c
 takes_crosses p source k (w ∷ ws) vs o fs c =
-    subst (λ x. Crosses p source (takes_word p w k).last x vs o fs) (sym (takes_received p w (form_of p.codes bus.A w) k)) (subst (λ n. Crosses p source n k.received vs o fs) (sym (takes_last p w (form_of p.codes bus.A w) k)) c)
+    subst (λ x. Crosses p source (takes_word p w k).last x vs o fs) (sym (takes_received p w (form_of p.codes bus.A w) k))
+    (subst (λ n. Crosses p source n k.received vs o fs) (sym (takes_last p w (form_of p.codes bus.A w) k)) c)
 
 -- ---- a block is accepted
 
 -- the sink with a block of this number accepted
 abbrev accepts_as : Contents → UnitNumber → List ℕ → ℕ → Bool → Sink → Sink
 accepts_as p number parts fl t k =
-    cond t k (record k { last = Some (record { number = number; final = is_final p.codes fl }); received = put number.file (bytes_in p.codes parts) (is_final p.codes fl) (received_for k.last number.file k.received) })
+    cond t k (record k {
+      last = Some (record { number = number; final = is_final p.codes fl });
+      received = put number.file (bytes_in p.codes parts) (is_final p.codes fl) (received_for k.last number.file k.received);
+    })
 
 -- the link data unit is accepted, and what the sink then has fits
-pub record Taken (p : Contents) (number : UnitNumber) (u : LduValue) (last : Option Number) (received o : Received) (fs : List FileBytes) : Type 0 where
+pub record Taken (p : Contents) (number : UnitNumber) (u : LduValue) (last : Option Number) (received o : Received)
+    (fs : List FileBytes) : Type 0 where
   pub accepted : Accepted p number u last received o fs
   pub fits : Fits p.codes.first_ldu last received.open_bytes
 
 -- it is new to the sink
-new_taken : (p : Contents) (g : ℕ) (number : UnitNumber) (u : LduValue) (last : Option Number) (received o : Received) (fs : List FileBytes) → g ≤ 127 → number.file ≤ 255 → Room p number.ldu (Some u) → Fits p.codes.first_ldu last received.open_bytes → Ahead p number g u last received o fs → Taken p number u (Some (unit_number p.codes number u)) (put number.file (bytes_in p.codes u.words) (is_final p.codes u.flags) (received_for last number.file received)) o fs
+new_taken : (p : Contents) (g : ℕ) (number : UnitNumber) (u : LduValue) (last : Option Number) (received o : Received) (fs : List FileBytes)
+    → g ≤ 127 → number.file ≤ 255 → Room p number.ldu (Some u) → Fits p.codes.first_ldu last received.open_bytes
+    → Ahead p number g u last received o fs
+    → Taken p number u (Some (unit_number p.codes number u))
+    (put number.file (bytes_in p.codes u.words) (is_final p.codes u.flags) (received_for last number.file received)) o fs
 new_taken p g number u last received o fs l byte r f a =
     let b = a.behind in
     let kept = received_for last number.file received in
@@ -261,59 +336,90 @@ new_taken p g number u last received o fs l byte r f a =
     let more = r.more u refl in
     record {
       accepted = record {
-        some = subst (λ (x : Received). IsSubsequenceOf (put number.file bytes final kept).files x.files) (sym a.with_it) (put_both number.file bytes final kept a.before (subst (λ x. IsSubsequenceOf x a.before.files) files b.some) b.opened);
+        some =
+            subst (λ (x : Received). IsSubsequenceOf (put number.file bytes final kept).files x.files) (sym a.with_it)
+            (put_both number.file bytes final kept a.before (subst (λ x. IsSubsequenceOf x a.before.files) files b.some) b.opened);
         opened = put_open number.file bytes final kept a.before b.opened ∙ ap (λ (x : Received). x.open_bytes) (sym a.with_it);
         closed = put_closed number.file bytes final kept;
         last_is = refl;
-        settled = subst (λ (x : Received). IsSubsequenceOf (cond final (fs ++ newest x.files) fs) (put number.file bytes final kept).files) (sym a.with_it) (put_settled number.file bytes final kept a.before fs (subst (λ x. IsSubsequenceOf fs x) files b.settled) b.opened);
+        settled =
+            subst (λ (x : Received). IsSubsequenceOf (cond final (fs ++ newest x.files) fs) (put number.file bytes final kept).files)
+            (sym a.with_it)
+            (put_settled number.file bytes final kept a.before fs (subst (λ x. IsSubsequenceOf fs x) files b.settled) b.opened);
       };
       fits = record {
         byte = byte;
         room = more.0;
-        most = omega (arith, more.1, put_room number.file bytes final kept, room_for p.codes.first_ldu last number g received l b.past r.low f);
+        most =
+            omega
+            (arith, more.1, put_room number.file bytes final kept, room_for p.codes.first_ldu last number g received l b.past r.low f);
       };
     }
 
-taken_by : (p : Contents) (g : ℕ) (number : UnitNumber) (u : LduValue) (k : Sink) (o : Received) (fs : List FileBytes) (t : Bool) → is_same k.last number ≡ t → g ≤ 127 → number.file ≤ 255 → Room p number.ldu (Some u) → Fits p.codes.first_ldu k.last k.received.open_bytes → Ahead p number g u k.last k.received o fs ⊎ Accepted p number u k.last k.received o fs → Taken p number u (accepts_as p number u.words u.flags t k).last (accepts_as p number u.words u.flags t k).received o fs
+taken_by : (p : Contents) (g : ℕ) (number : UnitNumber) (u : LduValue) (k : Sink) (o : Received) (fs : List FileBytes) (t : Bool)
+    → is_same k.last number ≡ t → g ≤ 127 → number.file ≤ 255 → Room p number.ldu (Some u)
+    → Fits p.codes.first_ldu k.last k.received.open_bytes
+    → Ahead p number g u k.last k.received o fs ⊎ Accepted p number u k.last k.received o fs
+    → Taken p number u (accepts_as p number u.words u.flags t k).last (accepts_as p number u.words u.flags t k).received o fs
 taken_by p g number u k o fs true e l byte r f (inl a) = absurd (cc (e, past_new k.last number g l a.behind.past))
 taken_by p g number u k o fs true e l byte r f (inr a) = record { accepted = a; fits = f }
 taken_by p g number u k o fs false e l byte r f (inl a) = new_taken p g number u k.last k.received o fs l byte r f a
 taken_by p g number u k o fs false e l byte r f (inr a) =
     absurd (cc (sym e ∙ ap (λ n. is_same n number) a.last_is ∙ number_same number))
 
-ack_taken : (p : Contents) (g : ℕ) (number : UnitNumber) (u : LduValue) (b : Block) (fl : ℕ) (k : Sink) (o : Received) (fs : List FileBytes) → g ≤ 127 → number.file ≤ 255 → Room p number.ldu (Some u) → Fits p.codes.first_ldu k.last k.received.open_bytes → Whole u number b fl → Stand p number g (Some u) k.last k.received o fs → Taken p number u (accepts p.codes b fl k).last (accepts p.codes b fl k).received o fs
+ack_taken : (p : Contents) (g : ℕ) (number : UnitNumber) (u : LduValue) (b : Block) (fl : ℕ) (k : Sink) (o : Received) (fs : List FileBytes)
+    → g ≤ 127 → number.file ≤ 255 → Room p number.ldu (Some u) → Fits p.codes.first_ldu k.last k.received.open_bytes → Whole u number b fl
+    → Stand p number g (Some u) k.last k.received o fs
+    → Taken p number u (accepts p.codes b fl k).last (accepts p.codes b fl k).received o fs
 ack_taken p g number u b fl k o fs l byte r f h c =
-    let P = λ (m : UnitNumber) (parts : List ℕ) (q : ℕ). Taken p number u (accepts_as p m parts q (is_same k.last m) k).last (accepts_as p m parts q (is_same k.last m) k).received o fs in
+    let P = λ (m : UnitNumber) (parts : List ℕ) (q : ℕ).
+    Taken p number u (accepts_as p m parts q (is_same k.last m) k).last (accepts_as p m parts q (is_same k.last m) k).received o fs in
     let here = taken_by p g number u k o fs (is_same k.last number) refl l byte r f c in
     subst (λ x. P x b.words fl) (sym h.told) (subst (λ x. P number x fl) (sym h.words) (subst (λ x. P number u.words x) (sym h.flags) here))
 
 -- the answer that is given, by its form
-answer_form : (p : Contents) (g : ℕ) (number : UnitNumber) (cur : Option LduValue) (sp : SourceState) (count : ℕ) (kp : SinkPhase) (xs ys : List Message) (k : Sink) (vs : List ℕ) (w : ℕ) (o : Received) (fs : List FileBytes) (f l : ℕ) → MaySay count kp (Ack f l) → number.file ≤ 255 → Config number cur sp count kp xs ys → Crosses p (source_at g number cur sp) k.last k.received vs o fs → Crosses p (source_at g number cur sp) (accepts_owed p.codes kp k).last (accepts_owed p.codes kp k).received (vs ++ w ∷ []) o fs
+answer_form : (p : Contents) (g : ℕ) (number : UnitNumber) (cur : Option LduValue) (sp : SourceState) (count : ℕ) (kp : SinkPhase)
+    (xs ys : List Message) (k : Sink) (vs : List ℕ) (w : ℕ) (o : Received) (fs : List FileBytes) (f l : ℕ)
+    → MaySay count kp (Ack f l) → number.file ≤ 255 → Config number cur sp count kp xs ys
+    → Crosses p (source_at g number cur sp) k.last k.received vs o fs
+    → Crosses p (source_at g number cur sp) (accepts_owed p.codes kp k).last (accepts_owed p.codes kp k).received (vs ++ w ∷ []) o fs
 answer_form p g number cur sp count kp xs ys k vs w o fs f l m byte (whole {u} {b} {flags} r h) c =
     let a = ack_taken p g number u b flags k o fs c.few byte c.room c.fits h c.stand in
     record { few = c.few; stand = inr a.accepted; accepted = λ i. a.accepted; room = c.room; fits = a.fits }
 answer_form p g number cur sp count kp xs ys k vs w o fs f l m byte (idle r s) c = absurd (owes_stale kp (may_owes count kp (Ack f l) m) s)
-answer_form p g number cur sp count kp xs ys k vs w o fs f l m byte (asked r s q) c = absurd (owes_stale kp (may_owes count kp (Ack f l) m) s)
-answer_form p g number cur sp count kp xs ys k vs w o fs f l m byte (unasked r s) c = absurd (owes_stale kp (may_owes count kp (Ack f l) m) s)
-answer_form p g number cur sp count kp xs ys k vs w o fs f l m byte (sending r i q le h) c = absurd (owes_grant kp (may_owes count kp (Ack f l) m) i)
-answer_form p g number cur sp count kp xs ys k vs w o fs f l m byte (waiting r i q h) c = absurd (owes_grant kp (may_owes count kp (Ack f l) m) i)
+answer_form p g number cur sp count kp xs ys k vs w o fs f l m byte (asked r s q) c =
+    absurd (owes_stale kp (may_owes count kp (Ack f l) m) s)
+answer_form p g number cur sp count kp xs ys k vs w o fs f l m byte (unasked r s) c =
+    absurd (owes_stale kp (may_owes count kp (Ack f l) m) s)
+answer_form p g number cur sp count kp xs ys k vs w o fs f l m byte (sending r i q le h) c =
+    absurd (owes_grant kp (may_owes count kp (Ack f l) m) i)
+answer_form p g number cur sp count kp xs ys k vs w o fs f l m byte (waiting r i q h) c =
+    absurd (owes_grant kp (may_owes count kp (Ack f l) m) i)
 answer_form p g number cur sp count kp xs ys k vs w o fs f l m byte _ c = absurd m
 
-answer_crosses : (p : Contents) (s : State) (w : ℕ) (x : Message) (o : Received) (fs : List FileBytes) → message_of p bus.B w ≡ Some x → s.to_source ≡ [] → MaySay s.sink.count s.sink.phase x → HoldsAt p s → CrossesAt p s o fs → Crosses p s.source (answers_message p x s.sink).last (answers_message p x s.sink).received (s.to_source ++ w ∷ []) o fs
-answer_crosses p s w (Ack f l) o fs e n m h c = answer_form p s.source.give_ups _ _ _ _ _ h.xs h.ys s.sink s.to_source w o fs f l m h.file h.fits c
+answer_crosses : (p : Contents) (s : State) (w : ℕ) (x : Message) (o : Received) (fs : List FileBytes)
+    → message_of p bus.B w ≡ Some x → s.to_source ≡ [] → MaySay s.sink.count s.sink.phase x → HoldsAt p s → CrossesAt p s o fs
+    → Crosses p s.source (answers_message p x s.sink).last (answers_message p x s.sink).received (s.to_source ++ w ∷ []) o fs
+answer_crosses p s w (Ack f l) o fs e n m h c =
+    answer_form p s.source.give_ups _ _ _ _ _ h.xs h.ys s.sink s.to_source w o fs f l m h.file h.fits c
 answer_crosses p s w (Cts q) o fs e n m h c =
-    with_answers p s.source s.sink.last s.sink.received s.to_source (s.to_source ++ w ∷ []) o fs (λ i. subst IsAck e (subst (λ l. HasAck p (l ++ w ∷ [])) n i)) c
+    with_answers p s.source s.sink.last s.sink.received s.to_source (s.to_source ++ w ∷ []) o fs
+    (λ i. subst IsAck e (subst (λ l. HasAck p (l ++ w ∷ [])) n i)) c
 answer_crosses p s w (Nak q) o fs e n m h c =
-    with_answers p s.source s.sink.last s.sink.received s.to_source (s.to_source ++ w ∷ []) o fs (λ i. subst IsAck e (subst (λ l. HasAck p (l ++ w ∷ [])) n i)) c
+    with_answers p s.source s.sink.last s.sink.received s.to_source (s.to_source ++ w ∷ []) o fs
+    (λ i. subst IsAck e (subst (λ l. HasAck p (l ++ w ∷ [])) n i)) c
 answer_crosses p s w x o fs e n m h c = absurd (may_answer s.sink.count s.sink.phase x m)
 
-answered_crosses : (p : Contents) (s : State) (i : Seen) (o : Received) (fs : List FileBytes) → Can p (Answered i) s → HoldsAt p s → CrossesAt p s o fs → CrossesAt p (after p (Answered i) s) o fs
+answered_crosses : (p : Contents) (s : State) (i : Seen) (o : Received) (fs : List FileBytes)
+    → Can p (Answered i) s → HoldsAt p s → CrossesAt p s o fs → CrossesAt p (after p (Answered i) s) o fs
 answered_crosses p s i o fs m h c =
     let r = owed_form p s i m in
     let alone = alone_on_the_way p s (may_owes s.sink.count s.sink.phase r.said r.owed) h in
-    subst (λ (q : Sink). Crosses p s.source q.last q.received (s.to_source ++ i.word ∷ []) o fs) (sym (answers_as p i.word r.said s.sink r.is)) (answer_crosses p s i.word r.said o fs r.is alone.2 r.owed h c)
+    subst (λ (q : Sink). Crosses p s.source q.last q.received (s.to_source ++ i.word ∷ []) o fs)
+    (sym (answers_as p i.word r.said s.sink r.is)) (answer_crosses p s i.word r.said o fs r.is alone.2 r.owed h c)
 
-pub step_crosses : (p : Contents) → IsRead p → (a : Step) (s : State) (o : Received) (fs : List FileBytes) → Can p a s → HoldsAt p s → CrossesAt p s o fs → CrossesAt p (after p a s) (offers p a s o) (settles p a s o fs)
+pub step_crosses : (p : Contents) → IsRead p → (a : Step) (s : State) (o : Received) (fs : List FileBytes) → Can p a s → HoldsAt p s
+    → CrossesAt p s o fs → CrossesAt p (after p a s) (offers p a s o) (settles p a s o fs)
 step_crosses p good (Load u) s o fs i h c = load_crosses p good s u o fs i h s.source.current refl i.1 c
 step_crosses p good (Sent w) s o fs i h c = in_phase p s.source _ _ _ _ o fs c
 step_crosses p good SentLost s o fs i h c = in_phase p s.source _ _ _ _ o fs c
@@ -331,10 +437,12 @@ pub record Books (p : Contents) (s : State) (o : Received) (fs : List FileBytes)
   pub holds : HoldsAt p s
   pub crosses : CrossesAt p s o fs
 
-run_books : (p : Contents) → IsRead p → (acts : List Step) (s : State) (o : Received) (fs : List FileBytes) → IsRun p acts s → Books p s o fs → Books p (end_of p acts s) (offered_from p acts s o) (settled_from p acts s o fs)
+run_books : (p : Contents) → IsRead p → (acts : List Step) (s : State) (o : Received) (fs : List FileBytes) → IsRun p acts s
+    → Books p s o fs → Books p (end_of p acts s) (offered_from p acts s o) (settled_from p acts s o fs)
 run_books p good [] s o fs h b = b
 run_books p good (a ∷ acts) s o fs h b =
-    run_books p good acts (after p a s) (offers p a s o) (settles p a s o fs) h.1 (record { holds = step_holds p good a s h.0 b.holds; crosses = step_crosses p good a s o fs h.0 b.holds b.crosses })
+    run_books p good acts (after p a s) (offers p a s o) (settles p a s o fs) h.1
+    (record { holds = step_holds p good a s h.0 b.holds; crosses = step_crosses p good a s o fs h.0 b.holds b.crosses })
 
 pub start_books : (p : Contents) (first : ℕ) → first ≤ 255 → Books p (start p first) nothing_received []
 start_books p first f =
@@ -349,39 +457,53 @@ start_books p first f =
       };
     }
 
-all_books : (p : Contents) (f : ℕ) (acts : List Step) → IsRead p → f ≤ 255 → IsRun p acts (start p f) → Books p (end_of p acts (start p f)) (offered_from p acts (start p f) nothing_received) (settled_from p acts (start p f) nothing_received [])
+all_books : (p : Contents) (f : ℕ) (acts : List Step) → IsRead p → f ≤ 255 → IsRun p acts (start p f)
+    → Books p (end_of p acts (start p f)) (offered_from p acts (start p f) nothing_received)
+    (settled_from p acts (start p f) nothing_received [])
 all_books p f acts good l h = run_books p good acts (start p f) nothing_received [] h (start_books p f l)
 
-stand_some : (p : Contents) (number : UnitNumber) (g : ℕ) (cur : Option LduValue) (last : Option Number) (received o : Received) (fs : List FileBytes) → Stand p number g cur last received o fs → IsSubsequenceOf received.files o.files
+stand_some : (p : Contents) (number : UnitNumber) (g : ℕ) (cur : Option LduValue) (last : Option Number) (received o : Received)
+    (fs : List FileBytes) → Stand p number g cur last received o fs → IsSubsequenceOf received.files o.files
 stand_some p number g None last received o fs b = b.some
-stand_some p number g (Some u) last received o fs (inl a) = subst (λ (x : Received). IsSubsequenceOf received.files x.files) (sym a.with_it) (put_second number.file (bytes_in p.codes u.words) (is_final p.codes u.flags) received.files a.before a.behind.some)
+stand_some p number g (Some u) last received o fs (inl a) =
+    subst (λ (x : Received). IsSubsequenceOf received.files x.files) (sym a.with_it)
+    (put_second number.file (bytes_in p.codes u.words) (is_final p.codes u.flags) received.files a.before a.behind.some)
 stand_some p number g (Some u) last received o fs (inr a) = a.some
 
-stand_settled : (p : Contents) (number : UnitNumber) (g : ℕ) (cur : Option LduValue) (last : Option Number) (received o : Received) (fs : List FileBytes) → Stand p number g cur last received o fs → IsSubsequenceOf fs received.files
+stand_settled : (p : Contents) (number : UnitNumber) (g : ℕ) (cur : Option LduValue) (last : Option Number) (received o : Received)
+    (fs : List FileBytes) → Stand p number g cur last received o fs → IsSubsequenceOf fs received.files
 stand_settled p number g None last received o fs b = b.settled
 stand_settled p number g (Some u) last received o fs (inl a) = a.behind.settled
 stand_settled p number g (Some u) last received o fs (inr a) = settled_before (is_final p.codes u.flags) fs o received a.settled
 
-stand_near : (p : Contents) (number : UnitNumber) (g : ℕ) (cur : Option LduValue) (last : Option Number) (received o : Received) (fs : List FileBytes) → g ≤ 127 → Fits p.codes.first_ldu last received.open_bytes → number.file ≤ 255 → Stand p number g cur last received o fs → IsNear last number
+stand_near : (p : Contents) (number : UnitNumber) (g : ℕ) (cur : Option LduValue) (last : Option Number) (received o : Received)
+    (fs : List FileBytes)
+    → g ≤ 127 → Fits p.codes.first_ldu last received.open_bytes → number.file ≤ 255 → Stand p number g cur last received o fs
+    → IsNear last number
 stand_near p number g None last received o fs l f byte b = past_near p.codes.first_ldu last received.open_bytes number g l f byte b.past
-stand_near p number g (Some u) last received o fs l f byte (inl a) = past_near p.codes.first_ldu last received.open_bytes number g l f byte a.behind.past
+stand_near p number g (Some u) last received o fs l f byte (inl a) =
+    past_near p.codes.first_ldu last received.open_bytes number g l f byte a.behind.past
 stand_near p number g (Some u) last received o fs l f byte (inr a) =
     let here : files_past number.file number.file ≤ 128 = omega arith in
     subst (λ n. IsNear n number) (sym a.last_is) here
 
-pub delivered_subsequence : (p : Contents) (f : ℕ) (xs : List Step) → IsRead p → f ≤ 255 → IsRun p xs (start p f) → IsSubsequenceOf (delivered p f xs) (offered p f xs)
+pub delivered_subsequence : (p : Contents) (f : ℕ) (xs : List Step)
+    → IsRead p → f ≤ 255 → IsRun p xs (start p f) → IsSubsequenceOf (delivered p f xs) (offered p f xs)
 delivered_subsequence p f xs good l h = stand_some p _ _ _ _ _ _ _ (all_books p f xs good l h).crosses.stand
 
-pub settled_subsequence : (p : Contents) (f : ℕ) (xs : List Step) → IsRead p → f ≤ 255 → IsRun p xs (start p f) → IsSubsequenceOf (settled p f xs) (delivered p f xs)
+pub settled_subsequence : (p : Contents) (f : ℕ) (xs : List Step)
+    → IsRead p → f ≤ 255 → IsRun p xs (start p f) → IsSubsequenceOf (settled p f xs) (delivered p f xs)
 settled_subsequence p f xs good l h = stand_settled p _ _ _ _ _ _ _ (all_books p f xs good l h).crosses.stand
 
-pub run_near : (p : Contents) (f : ℕ) (xs : List Step) → IsRead p → f ≤ 255 → IsRun p xs (start p f) → IsNear (end_of p xs (start p f)).sink.last (end_of p xs (start p f)).source.number
+pub run_near : (p : Contents) (f : ℕ) (xs : List Step)
+    → IsRead p → f ≤ 255 → IsRun p xs (start p f) → IsNear (end_of p xs (start p f)).sink.last (end_of p xs (start p f)).source.number
 run_near p f xs good l h =
     let b = all_books p f xs good l h in
     let c = b.crosses in
     stand_near p _ _ _ _ _ _ _ c.few c.fits b.holds.file c.stand
 
-pub run_bounded : (p : Contents) (f : ℕ) (xs : List Step) → IsRead p → f ≤ 255 → IsRun p xs (start p f) → IsBounded (end_of p xs (start p f))
+pub run_bounded : (p : Contents) (f : ℕ) (xs : List Step)
+    → IsRead p → f ≤ 255 → IsRun p xs (start p f) → IsBounded (end_of p xs (start p f))
 run_bounded p f xs good l h =
     let b = all_books p f xs good l h in
     let few = config_bounded _ _ _ _ _ _ _ b.holds.fits in

@@ -18,7 +18,25 @@ use Rattle.a429_link.specs.Run.{IsRun, trace, delivered, offered, settled}
 
 abbrev sample : Contents
 sample = record {
-  codes = record { to_sink = 196; to_source = 197; destination = 65; first_ldu = 1; final_bit = 25; full = 0; partial = 1; protocol = 4; sot = 6; eot = 7; rts = 1; cts = 2; ack = 5; nak = 6; ignored_types = 5 ∷ []; ignored_codes = 3 ∷ []; partial_codes = 1 ∷ 2 ∷ 3 ∷ 4 ∷ [] };
+  codes = record {
+    to_sink = 196;
+    to_source = 197;
+    destination = 65;
+    first_ldu = 1;
+    final_bit = 25;
+    full = 0;
+    partial = 1;
+    protocol = 4;
+    sot = 6;
+    eot = 7;
+    rts = 1;
+    cts = 2;
+    ack = 5;
+    nak = 6;
+    ignored_types = 5 ∷ [];
+    ignored_codes = 3 ∷ [];
+    partial_codes = 1 ∷ 2 ∷ 3 ∷ 4 ∷ [];
+  };
   check = record { poly = 0x1021; init = 0xffff; xor = 0xffff; low_first = true; compare = true };
   labels = [];
 }
@@ -46,7 +64,9 @@ unit flags = record { gfi = 0; flags = flags; check = 0xa3f5; words = 0x12004123
 
 -- the link data unit crosses, with this start word, end word and acknowledgement
 abbrev crosses : ℕ → Seen → Seen → Seen → List Step
-crosses flags s e a = Load (unit flags) ∷ (Sent rts ∷ (SinkTakes ∷ (Answered cts ∷ (TakeAnswer ∷ (Sent s ∷ (SinkTakes ∷ (Sent part ∷ (SinkTakes ∷ (Sent e ∷ (SinkTakes ∷ (Answered a ∷ (TakeAnswer ∷ []))))))))))))
+crosses flags s e a =
+    Load (unit flags) ∷ (Sent rts ∷ (SinkTakes ∷ (Answered cts
+    ∷ (TakeAnswer ∷ (Sent s ∷ (SinkTakes ∷ (Sent part ∷ (SinkTakes ∷ (Sent e ∷ (SinkTakes ∷ (Answered a ∷ (TakeAnswer ∷ []))))))))))))
 
 abbrev steps : List Step
 steps = crosses 1 sot eot ack
@@ -59,7 +79,8 @@ pub record Line : Type 0 where
   pub to_source : ℕ
 
 abbrev line_of : State → Line
-line_of s = record { source = s.source.phase; sink = sink_state_of s.sink.phase; to_sink = length s.to_sink; to_source = length s.to_source }
+line_of s =
+    record { source = s.source.phase; sink = sink_state_of s.sink.phase; to_sink = length s.to_sink; to_source = length s.to_source }
 
 abbrev lines : List Step → State → List Line
 lines [] s = []
@@ -70,7 +91,12 @@ line a b m n = record { source = a; sink = b; to_sink = m; to_source = n }
 
 -- the states on the way of one link data unit
 abbrev crossing : List Line
-crossing = line source.Idle sink.Quiet 0 0 ∷ (line source.Awaiting sink.Quiet 1 0 ∷ (line source.Awaiting sink.OwesClear 0 0 ∷ (line source.Awaiting sink.Granted 0 1 ∷ (line (source.Sending 0) sink.Granted 0 0 ∷ (line (source.Sending 1) sink.Granted 1 0 ∷ (line (source.Sending 1) (sink.InBlock 1) 0 0 ∷ (line (source.Sending 2) (sink.InBlock 1) 1 0 ∷ (line (source.Sending 2) (sink.InBlock 2) 0 0 ∷ (line source.Waiting (sink.InBlock 2) 1 0 ∷ (line source.Waiting sink.OwesAck 0 0 ∷ (line source.Waiting sink.Quiet 0 1 ∷ (line source.Idle sink.Quiet 0 0 ∷ []))))))))))))
+crossing =
+    line source.Idle sink.Quiet 0 0 ∷ (line source.Awaiting sink.Quiet 1 0 ∷ (line source.Awaiting sink.OwesClear 0 0
+    ∷ (line source.Awaiting sink.Granted 0 1 ∷ (line (source.Sending 0) sink.Granted 0 0 ∷ (line (source.Sending 1) sink.Granted 1 0
+    ∷ (line (source.Sending 1) (sink.InBlock 1) 0 0 ∷ (line (source.Sending 2) (sink.InBlock 1) 1 0
+    ∷ (line (source.Sending 2) (sink.InBlock 2) 0 0 ∷ (line source.Waiting (sink.InBlock 2) 1 0
+    ∷ (line source.Waiting sink.OwesAck 0 0 ∷ (line source.Waiting sink.Quiet 0 1 ∷ (line source.Idle sink.Quiet 0 0 ∷ []))))))))))))
 
 -- each state is the one that a certificate writes
 pub states : lines steps (start sample 1) ≡ crossing
@@ -107,7 +133,19 @@ is_ldu flags l = record {
 
 pub is_run : IsRun sample steps (start sample 1)
 unfolding sum_below
-is_run = ((tt, refl, lit≤ tt, is_ldu 1 (lit≤ tt)), ((refl, refl), ((tt, tt), ((refl, refl), (tt, ((refl, refl), ((tt, tt), ((refl, refl), ((tt, tt), ((refl, refl), ((tt, tt), ((refl, (refl, refl)), (tt, tt)))))))))))))
+is_run = (
+  (tt, refl, lit≤ tt, is_ldu 1 (lit≤ tt)),
+  (
+    (refl, refl),
+    (
+      (tt, tt),
+      (
+        (refl, refl),
+        (tt, ((refl, refl), ((tt, tt), ((refl, refl), ((tt, tt), ((refl, refl), ((tt, tt), ((refl, (refl, refl)), (tt, tt))))))))),
+      ),
+    ),
+  ),
+)
 
 -- ---- a file is given up
 
@@ -141,9 +179,73 @@ pub give_up_settled : settled sample 1 give_up_steps ≡ record { number = 2; by
 unfolding sum_below
 give_up_settled = refl
 
-pub give_up_words : trace give_up_steps ≡ rts ∷ (cts ∷ (sot ∷ (part ∷ (open_eot ∷ (ack ∷ (rts ∷ (cts ∷ (sot_two ∷ (part ∷ (eot ∷ (ack_two ∷ [])))))))))))
+pub give_up_words : trace give_up_steps ≡ rts
+    ∷ (cts ∷ (sot ∷ (part ∷ (open_eot ∷ (ack ∷ (rts ∷ (cts ∷ (sot_two ∷ (part ∷ (eot ∷ (ack_two ∷ [])))))))))))
 give_up_words = refl
 
 pub give_up_is_run : IsRun sample give_up_steps (start sample 1)
 unfolding sum_below
-give_up_is_run = ((tt, refl, lit≤ tt, is_ldu 0 (lit≤ tt)), ((refl, refl), ((tt, tt), ((refl, refl), (tt, ((refl, refl), ((tt, tt), ((refl, refl), ((tt, tt), ((refl, refl), ((tt, tt), ((refl, (refl, refl)), (tt, ((tt, lit≤ tt), ((tt, refl, lit≤ tt, is_ldu 1 (lit≤ tt)), ((refl, refl), ((tt, tt), ((refl, refl), (tt, ((refl, refl), ((tt, tt), ((refl, refl), ((tt, tt), ((refl, refl), ((tt, tt), ((refl, (refl, refl)), (tt, tt)))))))))))))))))))))))))))
+give_up_is_run = (
+  (tt, refl, lit≤ tt, is_ldu 0 (lit≤ tt)),
+  (
+    (refl, refl),
+    (
+      (tt, tt),
+      (
+        (refl, refl),
+        (
+          tt,
+          (
+            (refl, refl),
+            (
+              (tt, tt),
+              (
+                (refl, refl),
+                (
+                  (tt, tt),
+                  (
+                    (refl, refl),
+                    (
+                      (tt, tt),
+                      (
+                        (refl, (refl, refl)),
+                        (
+                          tt,
+                          (
+                            (tt, lit≤ tt),
+                            (
+                              (tt, refl, lit≤ tt, is_ldu 1 (lit≤ tt)),
+                              (
+                                (refl, refl),
+                                (
+                                  (tt, tt),
+                                  (
+                                    (refl, refl),
+                                    (
+                                      tt,
+                                      (
+                                        (refl, refl),
+                                        (
+                                          (tt, tt),
+                                          ((refl, refl), ((tt, tt), ((refl, refl), ((tt, tt), ((refl, (refl, refl)), (tt, tt)))))),
+                                        ),
+                                      ),
+                                    ),
+                                  ),
+                                ),
+                              ),
+                            ),
+                          ),
+                        ),
+                      ),
+                    ),
+                  ),
+                ),
+              ),
+            ),
+          ),
+        ),
+      ),
+    ),
+  ),
+)

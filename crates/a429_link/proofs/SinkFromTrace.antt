@@ -72,10 +72,12 @@ waits_still (Sending k) w = w
 waits_still Waiting w = tt
 
 -- a step from where the words on the way lead to the trace's sink
-step_on : (p : Contents) → IsRead p → (a : Step) (s : State) (k : Sink) → Can p a s → HoldsAt p s → take_all p s.to_sink s.sink ≡ k → Alike p (after p a s) (sees p (label a) k)
+step_on : (p : Contents) → IsRead p → (a : Step) (s : State) (k : Sink) → Can p a s → HoldsAt p s → take_all p s.to_sink s.sink ≡ k
+    → Alike p (after p a s) (sees p (label a) k)
 step_on p good (Load u) s k h c e = inl e
 step_on p good (Sent i) s k h c e =
-    subst (λ b. Alike p (after p (Sent i) s) (sink_sees p b i.word k)) (sym h.0) (inl (take_all_push p i.word s.to_sink s.sink ∙ ap (takes_word p i.word) e))
+    subst (λ b. Alike p (after p (Sent i) s) (sink_sees p b i.word k)) (sym h.0)
+    (inl (take_all_push p i.word s.to_sink s.sink ∙ ap (takes_word p i.word) e))
 step_on p good SentLost s k h c e = inl e
 step_on p good TimeOut s k h c e = inl e
 step_on p good TakeAnswer s k h c e = inl e
@@ -92,7 +94,9 @@ step_on p good Silent s k h c e =
 step_on p good (Answered i) s k h c e =
     let r = owed_form p s i h in
     let alone = alone_on_the_way p s (may_owes s.sink.count s.sink.phase r.said r.owed) c in
-    subst (λ b. Alike p (after p (Answered i) s) (sink_sees p b i.word k)) (sym h.0) (inl (ap (λ ws. take_all p ws (answers_word p.codes i.word s.sink)) alone.1 ∙ ap (answers_word p.codes i.word) (subst (λ ws. take_all p ws s.sink ≡ k) alone.1 e)))
+    subst (λ b. Alike p (after p (Answered i) s) (sink_sees p b i.word k)) (sym h.0)
+    (inl (ap (λ ws. take_all p ws (answers_word p.codes i.word s.sink)) alone.1
+    ∙ ap (answers_word p.codes i.word) (subst (λ ws. take_all p ws s.sink ≡ k) alone.1 e)))
 step_on p good (FreeSeen i) s k h c e = inl (e ∙ sym (free_sees p good i.bus i.word k h))
 step_on p good GiveUp s k h c e = inl e
 
@@ -101,7 +105,8 @@ none_there [] e n = n
 none_there (w ∷ ws) e n = cc e
 
 -- the only word that a source sends where it is in no block
-sent_still : (p : Contents) (number : UnitNumber) (cur : Option LduValue) (sp : SourceState) (x : Message) (k : Sink) → next_message number cur sp ≡ Some x → IsStill sp → takes_message p x (quieted k) ≡ takes_message p x k
+sent_still : (p : Contents) (number : UnitNumber) (cur : Option LduValue) (sp : SourceState) (x : Message) (k : Sink)
+    → next_message number cur sp ≡ Some x → IsStill sp → takes_message p x (quieted k) ≡ takes_message p x k
 sent_still p number (Some u) Idle x k e i =
     let same : Rts (count_of u) ≡ x = cc in subst (λ y. takes_message p y (quieted k) ≡ takes_message p y k) same refl
 sent_still p number (Some u) (Sending n) x k e i = absurd i
@@ -109,7 +114,8 @@ sent_still p number (Some u) Awaiting x k e i = absurd (cc e)
 sent_still p number (Some u) Waiting x k e i = absurd (cc e)
 sent_still p number None sp x k e i = absurd (cc e)
 
-lost_still : (number : UnitNumber) (cur : Option LduValue) (sp : SourceState) → IsSome (next_message number cur sp) → IsStill sp → IsStill (after_word cur sp)
+lost_still : (number : UnitNumber) (cur : Option LduValue) (sp : SourceState)
+    → IsSome (next_message number cur sp) → IsStill sp → IsStill (after_word cur sp)
 lost_still number None sp h i = absurd (cc h)
 lost_still number (Some u) Idle h i = tt
 lost_still number (Some u) (Sending n) h i = absurd i
@@ -120,36 +126,53 @@ quiet_owes : (kp : SinkPhase) → kp ≡ Quiet → Owes kp → ⊥
 quiet_owes kp e o = subst Owes e o
 
 -- a step after the sink has kept silent
-step_off : (p : Contents) → IsRead p → (a : Step) (s : State) (k : Sink) → Can p a s → HoldsAt p s → Rests s k → Alike p (after p a s) (sees p (label a) k)
+step_off : (p : Contents)
+    → IsRead p → (a : Step) (s : State) (k : Sink) → Can p a s → HoldsAt p s → Rests s k → Alike p (after p a s) (sees p (label a) k)
 step_off p good (Load u) s k h c r = inr (record { alike = r.alike; still = r.still; no_words = r.no_words; no_answers = r.no_answers })
 step_off p good (Sent i) s k h c r =
     let says = sends p good s.source i.word c.file c.current h.1 in
-    let same : takes_word p i.word (quieted k) ≡ takes_word p i.word k = takes_as p i.word says.said (quieted k) says.says ∙ sent_still p _ _ _ says.said k says.next r.still ∙ sym (takes_as p i.word says.said k says.says) in
+    let same : takes_word p i.word (quieted k) ≡ takes_word p i.word k = takes_as p i.word says.said (quieted k) says.says
+    ∙ sent_still p _ _ _ says.said k says.next r.still ∙ sym (takes_as p i.word says.said k says.says) in
     subst (λ b. Alike p (after p (Sent i) s) (sink_sees p b i.word k)) (sym h.0)
-    (inl (take_all_push p i.word s.to_sink s.sink ∙ ap (λ ws. takes_word p i.word (take_all p ws s.sink)) r.no_words ∙ ap (takes_word p i.word) r.alike ∙ same))
-step_off p good SentLost s k h c r = inr (record { alike = r.alike; still = lost_still s.source.number s.source.current s.source.phase (next_is_some p s.source.number s.source.current s.source.phase h) r.still; no_words = r.no_words; no_answers = r.no_answers })
+    (inl (take_all_push p i.word s.to_sink s.sink ∙ ap (λ ws. takes_word p i.word (take_all p ws s.sink)) r.no_words
+    ∙ ap (takes_word p i.word) r.alike ∙ same))
+step_off p good SentLost s k h c r =
+    inr (record {
+      alike = r.alike;
+      still =
+          lost_still s.source.number s.source.current s.source.phase
+          (next_is_some p s.source.number s.source.current s.source.phase h) r.still;
+      no_words = r.no_words;
+      no_answers = r.no_answers;
+    })
 step_off p good TimeOut s k h c r = inr (record { alike = r.alike; still = tt; no_words = r.no_words; no_answers = r.no_answers })
 step_off p good TakeAnswer s k h c r = absurd (none_there _ r.no_answers h)
 step_off p good LoseAnswer s k h c r = absurd (none_there _ r.no_answers h)
 step_off p good SinkTakes s k h c r = absurd (none_there _ r.no_words h.0)
 step_off p good Silent s k h c r = absurd (quiet_owes _ (ap (λ (x : Sink). x.phase) r.alike) h)
-step_off p good (Answered i) s k h c r = let o = owed_form p s i h in absurd (quiet_owes _ (ap (λ (x : Sink). x.phase) r.alike) (may_owes s.sink.count s.sink.phase o.said o.owed))
+step_off p good (Answered i) s k h c r =
+    let o = owed_form p s i h in
+    absurd (quiet_owes _ (ap (λ (x : Sink). x.phase) r.alike) (may_owes s.sink.count s.sink.phase o.said o.owed))
 step_off p good (FreeSeen i) s k h c r =
     subst (λ x. Alike p s x) (sym (free_sees p good i.bus i.word k h)) (inr r)
 step_off p good GiveUp s k h c r = inr (record { alike = r.alike; still = r.still; no_words = r.no_words; no_answers = r.no_answers })
 
-pub step_alike : (p : Contents) → IsRead p → (a : Step) (s : State) (k : Sink) → Can p a s → HoldsAt p s → Alike p s k → Alike p (after p a s) (sees p (label a) k)
+pub step_alike : (p : Contents)
+    → IsRead p → (a : Step) (s : State) (k : Sink) → Can p a s → HoldsAt p s → Alike p s k → Alike p (after p a s) (sees p (label a) k)
 step_alike p good a s k h c (inl e) = step_on p good a s k h c e
 step_alike p good a s k h c (inr r) = step_off p good a s k h c r
 
-sink_from_label : (p : Contents) (l : Option Seen) (items : List Seen) (k : Sink) → sink_after p items (sees p l k) ≡ sink_after p (with_label l items) k
+sink_from_label : (p : Contents) (l : Option Seen) (items : List Seen) (k : Sink)
+    → sink_after p items (sees p l k) ≡ sink_after p (with_label l items) k
 sink_from_label p None items k = refl
 sink_from_label p (Some i) items k = refl
 
-run_alike : (p : Contents) → IsRead p → (acts : List Step) (s : State) (k : Sink) → IsRun p acts s → HoldsAt p s → Alike p s k → Alike p (end_of p acts s) (sink_after p (trace acts) k)
+run_alike : (p : Contents) → IsRead p → (acts : List Step) (s : State) (k : Sink) → IsRun p acts s → HoldsAt p s → Alike p s k
+    → Alike p (end_of p acts s) (sink_after p (trace acts) k)
 run_alike p good [] s k h c m = m
 run_alike p good (a ∷ acts) s k h c m =
-    subst (λ x. Alike p (end_of p acts (after p a s)) x) (sink_from_label p (label a) (trace acts) k) (run_alike p good acts (after p a s) (sees p (label a) k) h.1 (step_holds p good a s h.0 c) (step_alike p good a s k h.0 c m))
+    subst (λ x. Alike p (end_of p acts (after p a s)) x) (sink_from_label p (label a) (trace acts) k)
+    (run_alike p good acts (after p a s) (sees p (label a) k) h.1 (step_holds p good a s h.0 c) (step_alike p good a s k h.0 c m))
 
 -- no word on the way changes what is delivered
 pub takes_received : (p : Contents) (w : ℕ) (o : Option Form) (k : Sink) → (takes_form p w o k).received ≡ k.received
@@ -162,13 +185,18 @@ take_all_received p [] k = refl
 take_all_received p (w ∷ ws) k = take_all_received p ws (takes_word p w k) ∙ takes_received p w (form_of p.codes bus.A w) k
 
 -- what is delivered is what the trace's sink has
-pub delivered_from_trace : (p : Contents) → IsRead p → (first : ℕ) → first ≤ 255 → (acts : List Step) → IsRun p acts (start p first) → delivered p first acts ≡ (sink_after p (trace acts) sink_at_first).received.files
+pub delivered_from_trace : (p : Contents) → IsRead p → (first : ℕ) → first ≤ 255 → (acts : List Step) → IsRun p acts (start p first)
+    → delivered p first acts ≡ (sink_after p (trace acts) sink_at_first).received.files
 delivered_from_trace p good first f acts h =
     ⊎_elim
-    (λ e. sym (ap (λ (x : Received). x.files) (take_all_received p (end_of p acts (start p first)).to_sink (end_of p acts (start p first)).sink)) ∙ ap (λ (x : Sink). x.received.files) e)
+    (λ e.
+    sym (ap (λ (x : Received). x.files) (take_all_received p (end_of p acts (start p first)).to_sink (end_of p acts (start p first)).sink))
+    ∙ ap (λ (x : Sink). x.received.files) e)
     (λ r. ap (λ (x : Sink). x.received.files) r.alike)
     (run_alike p good acts (start p first) sink_at_first h (start_holds p first f) (inl refl))
 
-pub same_delivered : (p : Contents) (f g : ℕ) (xs ys : List Step) → IsRead p → f ≤ 255 → g ≤ 255 → IsRun p xs (start p f) → IsRun p ys (start p g) → trace xs ≡ trace ys → delivered p f xs ≡ delivered p g ys
+pub same_delivered : (p : Contents) (f g : ℕ) (xs ys : List Step) → IsRead p → f ≤ 255 → g ≤ 255 → IsRun p xs (start p f)
+    → IsRun p ys (start p g) → trace xs ≡ trace ys → delivered p f xs ≡ delivered p g ys
 same_delivered p f g xs ys good lf lg h k e =
-    delivered_from_trace p good f lf xs h ∙ ap (λ t. (sink_after p t sink_at_first).received.files) e ∙ sym (delivered_from_trace p good g lg ys k)
+    delivered_from_trace p good f lf xs h ∙ ap (λ t. (sink_after p t sink_at_first).received.files) e
+    ∙ sym (delivered_from_trace p good g lg ys k)

@@ -15,13 +15,19 @@ pub block_length : (c : Codes) (u : LduValue) (number : UnitNumber) → length (
 block_length c u number = omega (arith, length-append u.words (word_number c (form.Eot u.flags u.check) ∷ []))
 
 -- past its end a block has no word
-pub past_block : (c : Codes) (u : LduValue) (number : UnitNumber) (k : ℕ) → count_of u ≤ k → slice_get (block_of c u number.file number.ldu) k ≡ None
+pub past_block : (c : Codes) (u : LduValue) (number : UnitNumber) (k : ℕ)
+    → count_of u ≤ k → slice_get (block_of c u number.file number.ldu) k ≡ None
 past_block c u number k h = slice_get_past (block_of c u number.file number.ldu) k (omega (arith, block_length c u number))
 
 -- a source that has a next word has not sent the whole block
-pub in_block : (c : Codes) (u : LduValue) (number : UnitNumber) (k : ℕ) → IsSome (slice_get (block_of c u number.file number.ldu) k) → k < count_of u
-in_block c u number k h = elim (cases_lt k (count_of u)) [ inl l ↦ l | inr g ↦ absurd (let none = ap is_some (past_block c u number k g) in cc) ]
+pub in_block : (c : Codes) (u : LduValue) (number : UnitNumber) (k : ℕ)
+    → IsSome (slice_get (block_of c u number.file number.ldu) k) → k < count_of u
+in_block c u number k h =
+    elim (cases_lt k (count_of u)) [ inl l ↦ l | inr g ↦ absurd (let none = ap is_some (past_block c u number k g) in cc) ]
 
-pub sending_room : (c : Codes) (number : UnitNumber) (cur : Option LduValue) (state : SourceState) (u : LduValue) (k : ℕ) → cur ≡ Some u → state ≡ Sending k → IsSome (next_word c number cur state) → k < count_of u
+pub sending_room : (c : Codes) (number : UnitNumber) (cur : Option LduValue) (state : SourceState) (u : LduValue) (k : ℕ)
+    → cur ≡ Some u → state ≡ Sending k → IsSome (next_word c number cur state) → k < count_of u
 sending_room c number cur state u k e h has =
-    in_block c u number k (subst (λ (o : Option LduValue). IsSome (next_word c number o (Sending k))) e (subst (λ (q : SourceState). IsSome (next_word c number cur q)) h has))
+    in_block c u number k
+    (subst (λ (o : Option LduValue). IsSome (next_word c number o (Sending k))) e
+    (subst (λ (q : SourceState). IsSome (next_word c number cur q)) h has))

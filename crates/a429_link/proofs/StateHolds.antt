@@ -41,22 +41,26 @@ parts_forms : (p : Contents) (ws : List ℕ) → AllParts p ws → Each (InRange
 parts_forms p [] h = tt
 parts_forms p (w ∷ ws) h = (h.0, parts_forms p ws h.1)
 
-block_forms : (p : Contents) (u : LduValue) (number : UnitNumber) → IsFit p u → number.file ≤ 255 → number.ldu ≤ 255 → Each (InRange p bus.A) (block_messages u number)
-block_forms p u number h f l = ((h.gfi, f, l), each_push (InRange p bus.A) (map Part u.words) (Eot u.flags u.check) (parts_forms p u.words h.parts) (h.flags, h.check))
+block_forms : (p : Contents) (u : LduValue) (number : UnitNumber)
+    → IsFit p u → number.file ≤ 255 → number.ldu ≤ 255 → Each (InRange p bus.A) (block_messages u number)
+block_forms p u number h f l =
+    ((h.gfi, f, l), each_push (InRange p bus.A) (map Part u.words) (Eot u.flags u.check) (parts_forms p u.words h.parts) (h.flags, h.check))
 
 pub each_get : (P : Message → Type 0) (k : ℕ) (xs : List Message) (x : Message) → Each P xs → slice_get xs k ≡ Some x → P x
 each_get P k [] x h e = absurd (cc e)
 each_get P zero (y ∷ ys) x h e = let same : y ≡ x = cc in subst P same h.0
 each_get P (suc k) (y ∷ ys) x h e = each_get P k ys x h.1 e
 
-pub next_in_range : (p : Contents) (number : UnitNumber) (cur : Option LduValue) (sp : SourceState) (x : Message) → number.file ≤ 255 → Current p cur number.ldu → next_message number cur sp ≡ Some x → InRange p bus.A x
+pub next_in_range : (p : Contents) (number : UnitNumber) (cur : Option LduValue) (sp : SourceState) (x : Message)
+    → number.file ≤ 255 → Current p cur number.ldu → next_message number cur sp ≡ Some x → InRange p bus.A x
 next_in_range p number None sp x f c e = absurd (cc e)
 next_in_range p number (Some u) Idle x f c e =
     let same : Rts (count_of u) ≡ x = cc in
     let room = c.0.room in let some = c.0.some in
     let range : InRange p bus.A (Rts (count_of u)) = (omega arith, omega arith) in
     subst (InRange p bus.A) same range
-next_in_range p number (Some u) (Sending k) x f c e = each_get (InRange p bus.A) k (block_messages u number) x (block_forms p u number c.0 f c.1) e
+next_in_range p number (Some u) (Sending k) x f c e =
+    each_get (InRange p bus.A) k (block_messages u number) x (block_forms p u number c.0 f c.1) e
 next_in_range p number (Some u) Awaiting x f c e = absurd (cc e)
 next_in_range p number (Some u) Waiting x f c e = absurd (cc e)
 
@@ -66,7 +70,8 @@ pub record Sends (p : Contents) (s : Source) (w : ℕ) : Type 0 where
   pub next : next_message s.number s.current s.phase ≡ Some said
   pub says : message_of p bus.A w ≡ Some said
 
-pub sends : (p : Contents) → IsRead p → (s : Source) (w : ℕ) → s.number.file ≤ 255 → Current p s.current s.number.ldu → next_word_of p s ≡ Some w → Sends p s w
+pub sends : (p : Contents)
+    → IsRead p → (s : Source) (w : ℕ) → s.number.file ≤ 255 → Current p s.current s.number.ldu → next_word_of p s ≡ Some w → Sends p s w
 sends p good s w f c e =
     let h = next_says p s.number s.current s.phase w e in
     let range = next_in_range p s.number s.current s.phase h.said f c h.is in
@@ -86,7 +91,9 @@ sent_holds p good s i m h =
       fits = sent_fits _ _ _ _ _ _ _ says.said says.next h.fits;
     }
 
-takes_holds : (p : Contents) (source : Source) (k : Sink) (ws vs : List ℕ) (xs ys : List Message) → IsNonEmpty ws → AllSay p bus.A ws xs → AllSay p bus.B vs ys → source.number.file ≤ 255 → Current p source.current source.number.ldu → Config source.number source.current source.phase k.count k.phase xs ys → Holds p source (takes_first p ws k) (rest ws) vs
+takes_holds : (p : Contents) (source : Source) (k : Sink) (ws vs : List ℕ) (xs ys : List Message)
+    → IsNonEmpty ws → AllSay p bus.A ws xs → AllSay p bus.B vs ys → source.number.file ≤ 255 → Current p source.current source.number.ldu
+    → Config source.number source.current source.phase k.count k.phase xs ys → Holds p source (takes_first p ws k) (rest ws) vs
 takes_holds p source k [] vs xs ys n e d f c h = absurd n
 takes_holds p source k (w ∷ ws) vs [] ys n e d f c h = absurd e
 takes_holds p source k (w ∷ ws) vs (x ∷ xs) ys n e d f c h =
@@ -101,7 +108,9 @@ takes_holds p source k (w ∷ ws) vs (x ∷ xs) ys n e d f c h =
       fits = taken_fits p k.last k.received _ _ _ _ _ x xs ys h;
     })
 
-unheard_holds : (p : Contents) (source : Source) (k : Sink) (ws vs : List ℕ) (xs ys : List Message) → IsNonEmpty vs → AllSay p bus.A ws xs → AllSay p bus.B vs ys → source.number.file ≤ 255 → Current p source.current source.number.ldu → Config source.number source.current source.phase k.count k.phase xs ys → Holds p source k ws (rest vs)
+unheard_holds : (p : Contents) (source : Source) (k : Sink) (ws vs : List ℕ) (xs ys : List Message)
+    → IsNonEmpty vs → AllSay p bus.A ws xs → AllSay p bus.B vs ys → source.number.file ≤ 255 → Current p source.current source.number.ldu
+    → Config source.number source.current source.phase k.count k.phase xs ys → Holds p source k ws (rest vs)
 unheard_holds p source k ws [] xs ys n e d f c h = absurd n
 unheard_holds p source k ws (v ∷ vs) xs [] n e d f c h = absurd d
 unheard_holds p source k ws (v ∷ vs) xs (y ∷ ys) n e d f c h =
@@ -123,13 +132,18 @@ either : (p : Contents) (t : Bool) (a b : Source) → Numbers p a → Numbers p 
 either p true a b h k = h
 either p false a b h k = k
 
-hear_numbers : (p : Contents) (g : ℕ) (number : UnitNumber) (cur : Option LduValue) (sp : SourceState) (count : ℕ) (kp : SinkPhase) (xs : List Message) (y : Message) (ys : List Message) → Config number cur sp count kp xs (y ∷ ys) → number.file ≤ 255 → Current p cur number.ldu → Numbers p (with_answer_message p cur sp y (source_at g number cur sp))
+hear_numbers : (p : Contents) (g : ℕ) (number : UnitNumber) (cur : Option LduValue) (sp : SourceState) (count : ℕ) (kp : SinkPhase)
+    (xs : List Message) (y : Message) (ys : List Message)
+    → Config number cur sp count kp xs (y ∷ ys) → number.file ≤ 255 → Current p cur number.ldu
+    → Numbers p (with_answer_message p cur sp y (source_at g number cur sp))
 hear_numbers p g number cur sp count kp xs y ys (cleared {u} {n} r q) f c = either p _ _ _ (f, c) (f, c)
 hear_numbers p g number cur sp count kp xs y ys (refused r) f c = (f, c)
 hear_numbers p g number cur sp count kp xs y ys (acked {u} r ef el) f c =
     either p _ _ _ (next_byte p.codes number (is_final p.codes u.flags) f, tt) (f, c)
 
-with_answer_holds : (p : Contents) (source : Source) (k : Sink) (ws vs : List ℕ) (xs ys : List Message) → IsNonEmpty vs → AllSay p bus.A ws xs → AllSay p bus.B vs ys → source.number.file ≤ 255 → Current p source.current source.number.ldu → Config source.number source.current source.phase k.count k.phase xs ys → Holds p (with_answer_first p.codes vs source) k ws (rest vs)
+with_answer_holds : (p : Contents) (source : Source) (k : Sink) (ws vs : List ℕ) (xs ys : List Message)
+    → IsNonEmpty vs → AllSay p bus.A ws xs → AllSay p bus.B vs ys → source.number.file ≤ 255 → Current p source.current source.number.ldu
+    → Config source.number source.current source.phase k.count k.phase xs ys → Holds p (with_answer_first p.codes vs source) k ws (rest vs)
 with_answer_holds p source k ws [] xs ys n e d f c h = absurd n
 with_answer_holds p source k ws (v ∷ vs) xs [] n e d f c h = absurd d
 with_answer_holds p source k ws (v ∷ vs) xs (y ∷ ys) n e d f c h =
@@ -145,7 +159,8 @@ with_answer_holds p source k ws (v ∷ vs) xs (y ∷ ys) n e d f c h =
       fits = heard_fits p source.give_ups _ _ _ _ _ y xs ys h;
     })
 
-answered_phase : (p : Contents) (x : Message) (k : Sink) (count : ℕ) (kp : SinkPhase) → MaySay count kp x → (answers_message p x k).phase ≡ phase_answered x
+answered_phase : (p : Contents) (x : Message) (k : Sink) (count : ℕ) (kp : SinkPhase)
+    → MaySay count kp x → (answers_message p x k).phase ≡ phase_answered x
 answered_phase p (Cts n) k count kp m = refl
 answered_phase p (Ack a b) k count kp m = refl
 answered_phase p (Nak b) k count kp m = refl
@@ -173,13 +188,18 @@ answered_holds p s i m h =
       file = h.file;
       current = h.current;
       fits =
-          subst (λ n. Config s.source.number s.source.current s.source.phase n k'.phase h.xs (h.ys ++ r.said ∷ [])) (sym (answered_count p r.said s.sink))
-          (subst (λ q. Config s.source.number s.source.current s.source.phase s.sink.count q h.xs (h.ys ++ r.said ∷ [])) (sym (answered_phase p r.said s.sink s.sink.count s.sink.phase r.owed)) fits);
+          subst (λ n. Config s.source.number s.source.current s.source.phase n k'.phase h.xs (h.ys ++ r.said ∷ []))
+          (sym (answered_count p r.said s.sink))
+          (subst (λ q. Config s.source.number s.source.current s.source.phase s.sink.count q h.xs (h.ys ++ r.said ∷ []))
+          (sym (answered_phase p r.said s.sink s.sink.count s.sink.phase r.owed)) fits);
     })
 
 -- the words stay, the phases go on
-on_way : (p : Contents) (s : State) (source : Source) (k : Sink) → (h : HoldsAt p s) → source.number.file ≤ 255 → Current p source.current source.number.ldu → Config source.number source.current source.phase k.count k.phase h.xs h.ys → Holds p source k s.to_sink s.to_source
-on_way p s source k h f c g = record { xs = h.xs; ys = h.ys; sink_words = h.sink_words; source_words = h.source_words; file = f; current = c; fits = g }
+on_way : (p : Contents) (s : State) (source : Source) (k : Sink)
+    → (h : HoldsAt p s) → source.number.file ≤ 255 → Current p source.current source.number.ldu
+    → Config source.number source.current source.phase k.count k.phase h.xs h.ys → Holds p source k s.to_sink s.to_source
+on_way p s source k h f c g =
+    record { xs = h.xs; ys = h.ys; sink_words = h.sink_words; source_words = h.source_words; file = f; current = c; fits = g }
 
 pub step_holds : (p : Contents) → IsRead p → (a : Step) (s : State) → Can p a s → HoldsAt p s → HoldsAt p (after p a s)
 step_holds p good (Load u) s c h =
@@ -189,11 +209,19 @@ step_holds p good (Load u) s c h =
     let fit = good.fit u c.3 in
     on_way p s _ s.sink h h.file (fit, room, c.3) (load_fits _ _ _ _ _ _ _ u c.0 fit.room h.fits)
 step_holds p good (Sent i) s c h = sent_holds p good s i c h
-step_holds p good SentLost s c h = on_way p s _ s.sink h h.file h.current (lost_fits _ _ _ _ _ _ _ (next_is_some p s.source.number s.source.current s.source.phase c) h.fits)
-step_holds p good TimeOut s c h = on_way p s _ s.sink h h.file h.current (late_fits _ _ _ _ _ _ _ c.0 c.3 (say_none p bus.A s.to_sink h.xs h.sink_words c.1) (say_none p bus.B s.to_source h.ys h.source_words c.2) h.fits)
-step_holds p good TakeAnswer s c h = with_answer_holds p s.source s.sink s.to_sink s.to_source h.xs h.ys c h.sink_words h.source_words h.file h.current h.fits
-step_holds p good LoseAnswer s c h = unheard_holds p s.source s.sink s.to_sink s.to_source h.xs h.ys c h.sink_words h.source_words h.file h.current h.fits
-step_holds p good SinkTakes s c h = takes_holds p s.source s.sink s.to_sink s.to_source h.xs h.ys c.0 h.sink_words h.source_words h.file h.current h.fits
+step_holds p good SentLost s c h =
+    on_way p s _ s.sink h h.file h.current
+    (lost_fits _ _ _ _ _ _ _ (next_is_some p s.source.number s.source.current s.source.phase c) h.fits)
+step_holds p good TimeOut s c h =
+    on_way p s _ s.sink h h.file h.current
+    (late_fits _ _ _ _ _ _ _ c.0 c.3 (say_none p bus.A s.to_sink h.xs h.sink_words c.1)
+    (say_none p bus.B s.to_source h.ys h.source_words c.2) h.fits)
+step_holds p good TakeAnswer s c h =
+    with_answer_holds p s.source s.sink s.to_sink s.to_source h.xs h.ys c h.sink_words h.source_words h.file h.current h.fits
+step_holds p good LoseAnswer s c h =
+    unheard_holds p s.source s.sink s.to_sink s.to_source h.xs h.ys c h.sink_words h.source_words h.file h.current h.fits
+step_holds p good SinkTakes s c h =
+    takes_holds p s.source s.sink s.to_sink s.to_source h.xs h.ys c.0 h.sink_words h.source_words h.file h.current h.fits
 step_holds p good Silent s c h = on_way p s s.source _ h h.file h.current (silent_fits _ _ _ _ _ _ _ c h.fits)
 step_holds p good (Answered i) s c h = answered_holds p s i c h
 step_holds p good (FreeSeen i) s c h = h
@@ -204,7 +232,8 @@ start_holds p first f =
     record { xs = []; ys = []; sink_words = tt; source_words = tt; file = f; current = tt; fits = idle tt tt }
 
 -- where the sink owes an answer nothing is on the way
-pub alone_on_the_way : (p : Contents) (s : State) → Owes s.sink.phase → HoldsAt p s → Waits s.source.phase × (s.to_sink ≡ []) × (s.to_source ≡ [])
+pub alone_on_the_way : (p : Contents) (s : State)
+    → Owes s.sink.phase → HoldsAt p s → Waits s.source.phase × (s.to_sink ≡ []) × (s.to_source ≡ [])
 alone_on_the_way p s o h =
     let alone = owes_alone _ _ _ _ _ _ _ o h.fits in
     (alone.0, none_say p bus.A s.to_sink h.xs h.sink_words alone.1, none_say p bus.B s.to_source h.ys h.source_words alone.2)

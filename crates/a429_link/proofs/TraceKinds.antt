@@ -65,9 +65,13 @@ answer_in o _ _ a = absurd a
 
 form_in : (o : Observer) (b : Bus) (x : Form) → AllowsForm o b (Some x) → IsIn (kinds_allowed o) (kind_of x)
 form_in o bus.A (form.Rts n) a = inl refl
-form_in o bus.A (form.Sot gfi file ldu) a = inr (subst (λ ks. IsIn ks AnySot) (block_kinds o o.phase a.0) (sot_in o.begun (ltb (o.parts + 2) o.count) a.1))
-form_in o bus.A (form.Part semis) a = inr (subst (λ ks. IsIn ks AnyData) (block_kinds o o.phase a.0) (data_in o.begun (ltb (o.parts + 2) o.count) (lt-ltb (o.parts + 2) o.count a.1)))
-form_in o bus.A (form.Eot flags check) a = inr (subst (λ ks. IsIn ks AnyEot) (block_kinds o o.phase a) (eot_in o.begun (ltb (o.parts + 2) o.count)))
+form_in o bus.A (form.Sot gfi file ldu) a =
+    inr (subst (λ ks. IsIn ks AnySot) (block_kinds o o.phase a.0) (sot_in o.begun (ltb (o.parts + 2) o.count) a.1))
+form_in o bus.A (form.Part semis) a =
+    inr (subst (λ ks. IsIn ks AnyData) (block_kinds o o.phase a.0)
+    (data_in o.begun (ltb (o.parts + 2) o.count) (lt-ltb (o.parts + 2) o.count a.1)))
+form_in o bus.A (form.Eot flags check) a =
+    inr (subst (λ ks. IsIn ks AnyEot) (block_kinds o o.phase a) (eot_in o.begun (ltb (o.parts + 2) o.count)))
 form_in o bus.A (form.Cts n) a = absurd a
 form_in o bus.A (form.Ack file ldu) a = absurd a
 form_in o bus.A (form.Nak bits) a = absurd a
@@ -75,7 +79,8 @@ form_in o bus.B x a = inr (answer_in o o.phase x a)
 
 -- ---- each kind that is listed is that of a form that is allowed
 
-block_from : (o : Observer) (k : Kind) (begun few : Bool) → HasGrant o.phase → o.begun ≡ begun → ltb (o.parts + 2) o.count ≡ few → IsIn (block_list begun few) k → AllowsKind o k
+block_from : (o : Observer) (k : Kind) (begun few : Bool)
+    → HasGrant o.phase → o.begun ≡ begun → ltb (o.parts + 2) o.count ≡ few → IsIn (block_list begun few) k → AllowsKind o k
 block_from o k begun few g e f = by begun few e f
   where
     sot : o.begun ≡ false → AnySot ≡ k → AllowsKind o k
@@ -90,7 +95,8 @@ block_from o k begun few g e f = by begun few e f
     by : (begun few : Bool) → o.begun ≡ begun → ltb (o.parts + 2) o.count ≡ few → IsIn (block_list begun few) k → AllowsKind o k
     by true true e f h = elim h [ inl s ↦ part f s | inr t ↦ elim t [ inl s ↦ eot s | inr u ↦ absurd u ] ]
     by true false e f h = elim h [ inl s ↦ eot s | inr u ↦ absurd u ]
-    by false true e f h = elim h [ inl s ↦ sot e s | inr t ↦ elim t [ inl s ↦ part f s | inr v ↦ elim v [ inl s ↦ eot s | inr u ↦ absurd u ] ] ]
+    by false true e f h =
+        elim h [ inl s ↦ sot e s | inr t ↦ elim t [ inl s ↦ part f s | inr v ↦ elim v [ inl s ↦ eot s | inr u ↦ absurd u ] ] ]
     by false false e f h = elim h [ inl s ↦ sot e s | inr t ↦ elim t [ inl s ↦ eot s | inr u ↦ absurd u ] ]
 
 abbrev at_phase : Observer → SinkPhase → Observer
@@ -101,7 +107,10 @@ phase_from o k Quiet h = absurd h
 phase_from o k OwesClear h = elim h [ inl s ↦ (bus.B, form.Cts o.count, s, refl) | inr u ↦ absurd u ]
 phase_from o k Granted h = block_from (at_phase o Granted) k o.begun (ltb (o.parts + 2) o.count) tt refl refl h
 phase_from o k (InBlock b) h = block_from (at_phase o (InBlock b)) k o.begun (ltb (o.parts + 2) o.count) tt refl refl h
-phase_from o k (OwesAck b flags) h = elim h [ inl s ↦ (bus.B, form.Ack b.file b.ldu, s, (refl, refl)) | inr t ↦ elim t [ inl s ↦ (bus.B, form.Nak 0, s, tt) | inr u ↦ absurd u ] ]
+phase_from o k (OwesAck b flags) h = elim h [
+  | inl s ↦ (bus.B, form.Ack b.file b.ldu, s, (refl, refl))
+  | inr t ↦ elim t [ inl s ↦ (bus.B, form.Nak 0, s, tt) | inr u ↦ absurd u ]
+]
 phase_from o k OwesNak h = elim h [ inl s ↦ (bus.B, form.Nak 0, s, tt) | inr u ↦ absurd u ]
 
 kind_from : (o : Observer) (k : Kind) → IsIn (kinds_allowed o) k → AllowsKind o k

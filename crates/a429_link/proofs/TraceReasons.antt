@@ -31,7 +31,8 @@ pairs_whole [] = refl
 pairs_whole (l ∷ []) = refl
 pairs_whole (l ∷ h ∷ ss) =
     let same : length ss % 2 ≡ suc (suc (length ss)) % 2 = omega arith in
-    mapped_some_too (paired ss) (l + 16 * h) ∙ pairs_even ss ∙ ap (λ n. not (eqb n 1)) same ∙ no_few (eqb (suc (suc (length ss)) % 2) 1) (length ss)
+    mapped_some_too (paired ss) (l + 16 * h) ∙ pairs_even ss ∙ ap (λ n. not (eqb n 1)) same
+    ∙ no_few (eqb (suc (suc (length ss)) % 2) 1) (length ss)
   where
     no_few : (t : Bool) (n : ℕ) → not t ≡ not (t || ltb (suc (suc n)) 2)
     no_few true n = refl
@@ -45,34 +46,42 @@ carries_where c ws = by (semis_of_words c ws)
     by (Some ss) = pairs_whole ss
 
 -- the first reason of four, and whether none holds
-first_reason : (a m c d : Bool) (x y z w : Why) → (cond (not a) (Some x) (cond m (Some y) (cond (not c) (Some z) (cond (not d) (Some w) None))) ≡ None) ↔ ((a && (not m && (c && d))) ≡ true)
+first_reason : (a m c d : Bool) (x y z w : Why)
+    → (cond (not a) (Some x) (cond m (Some y) (cond (not c) (Some z) (cond (not d) (Some w) None))) ≡ None)
+    ↔ ((a && (not m && (c && d))) ≡ true)
 first_reason false m c d x y z w = (λ e. cc e, λ e. cc e)
 first_reason true true c d x y z w = (λ e. cc e, λ e. cc e)
 first_reason true false false d x y z w = (λ e. cc e, λ e. cc e)
 first_reason true false true false x y z w = (λ e. cc e, λ e. cc e)
 first_reason true false true true x y z w = (λ e. refl, λ e. refl)
 
-pub none_where_good : (p : Contents) (last : Option Number) (count : ℕ) (b : Block) (check : ℕ) → (why_bad p last count (Some b) check ≡ None) ↔ (is_good p last count b check ≡ true)
+pub none_where_good : (p : Contents) (last : Option Number) (count : ℕ) (b : Block) (check : ℕ)
+    → (why_bad p last count (Some b) check ≡ None) ↔ (is_good p last count b check ≡ true)
 none_where_good p last count b check =
     let agree = agrees p.check (bytes_in p.codes b.words) check in
     let may = may_come p.codes last (number_of b) in
     let asked = eqb (length b.words + 2) count in
-    subst (λ t. (why_bad p last count (Some b) check ≡ None) ↔ ((asked && (t && (agree && may))) ≡ true)) (sym (carries_where p.codes b.words))
+    subst (λ t. (why_bad p last count (Some b) check ≡ None) ↔ ((asked && (t && (agree && may))) ≡ true))
+    (sym (carries_where p.codes b.words))
     (first_reason asked (are_half (semis_in_words p.codes b.words)) agree may _ _ _ _)
 
-owed_where : (t : Bool) (o : Option Why) (b : Block) (flags : ℕ) → (o ≡ None) ↔ (t ≡ true) → (cond t (OwesAck b flags) OwesNak ≡ OwesNak) ↔ IsSome o
+owed_where : (t : Bool) (o : Option Why) (b : Block) (flags : ℕ)
+    → (o ≡ None) ↔ (t ≡ true) → (cond t (OwesAck b flags) OwesNak ≡ OwesNak) ↔ IsSome o
 owed_where true None b flags e = (λ h. cc h, λ h. absurd (cc h))
 owed_where true (Some x) b flags e = absurd (cc (e.1 refl))
 owed_where false None b flags e = absurd (cc (e.0 refl))
 owed_where false (Some x) b flags e = (λ h. refl, λ h. refl)
 
-end_owes : (p : Contents) (last : Option Number) (count flags check : ℕ) (phase : SinkPhase) → HasGrant phase → (at_end p last count (end_word flags check) phase ≡ OwesNak) ↔ IsSome (why_bad p last count (block_in phase) check)
+end_owes : (p : Contents) (last : Option Number) (count flags check : ℕ) (phase : SinkPhase)
+    → HasGrant phase → (at_end p last count (end_word flags check) phase ≡ OwesNak) ↔ IsSome (why_bad p last count (block_in phase) check)
 end_owes p last count flags check Granted g = (λ h. refl, λ h. refl)
-end_owes p last count flags check (InBlock b) g = owed_where (is_good p last count b check) (why_bad p last count (Some b) check) b flags (none_where_good p last count b check)
+end_owes p last count flags check (InBlock b) g =
+    owed_where (is_good p last count b check) (why_bad p last count (Some b) check) b flags (none_where_good p last count b check)
 end_owes p last count flags check Quiet g = absurd g
 end_owes p last count flags check OwesClear g = absurd g
 end_owes p last count flags check (OwesAck b f) g = absurd g
 end_owes p last count flags check OwesNak g = absurd g
 
-pub owes_where_bad : (p : Contents) (k : Sink) (flags check : ℕ) → HasGrant k.phase → ((takes_end p flags check k).phase ≡ OwesNak) ↔ IsSome (why_bad p k.last k.count (block_in k.phase) check)
+pub owes_where_bad : (p : Contents) (k : Sink) (flags check : ℕ)
+    → HasGrant k.phase → ((takes_end p flags check k).phase ≡ OwesNak) ↔ IsSome (why_bad p k.last k.count (block_in k.phase) check)
 owes_where_bad p k flags check g = end_owes p k.last k.count flags check k.phase g

@@ -23,7 +23,8 @@ HasNumbers count (InBlock b) = (b.file ≤ 255) × (b.ldu ≤ 255)
 HasNumbers count (OwesAck b flags) = (b.file ≤ 255) × (b.ldu ≤ 255)
 HasNumbers count _ = Unit {0}
 
-start_numbers : (g f l count : ℕ) (phase : SinkPhase) → f ≤ 255 → l ≤ 255 → HasNumbers count phase → HasNumbers count (at_start (empty_block g f l) phase)
+start_numbers : (g f l count : ℕ) (phase : SinkPhase)
+    → f ≤ 255 → l ≤ 255 → HasNumbers count phase → HasNumbers count (at_start (empty_block g f l) phase)
 start_numbers g f l count Granted hf hl h = (hf, hl)
 start_numbers g f l count (InBlock b) hf hl h = (hf, hl)
 start_numbers g f l count Quiet hf hl h = h
@@ -39,7 +40,8 @@ part_numbers w count OwesClear h = h
 part_numbers w count (OwesAck b fl) h = h
 part_numbers w count OwesNak h = h
 
-end_numbers : (p : Contents) (last : Option Number) (count flags check : ℕ) (phase : SinkPhase) → HasNumbers count phase → HasNumbers count (at_end p last count (end_word flags check) phase)
+end_numbers : (p : Contents) (last : Option Number) (count flags check : ℕ) (phase : SinkPhase)
+    → HasNumbers count phase → HasNumbers count (at_end p last count (end_word flags check) phase)
 end_numbers p last count flags check Granted h = h
 end_numbers p last count flags check (InBlock b) h = by (is_good p last count b check)
   where
@@ -54,7 +56,8 @@ end_numbers p last count flags check OwesNak h = h
 abbrev Holds : Observer → Type 0
 Holds o = HasNumbers o.count o.phase
 
-sees_numbers : (p : Contents) (b : Bus) (w : ℕ) (f : Option Form) (o : Observer) → ((x : Form) → f ≡ Some x → IsInRange x) → Holds o → Holds (sees_form p b w f o)
+sees_numbers : (p : Contents) (b : Bus) (w : ℕ) (f : Option Form) (o : Observer)
+    → ((x : Form) → f ≡ Some x → IsInRange x) → Holds o → Holds (sees_form p b w f o)
 sees_numbers p b w None o r h = h
 sees_numbers p bus.A w (Some (form.Rts n)) o r h = let i = r (form.Rts n) refl in (i.0, i.1)
 sees_numbers p bus.A w (Some (form.Sot g f l)) o r h = let i = r (form.Sot g f l) refl in start_numbers g f l o.count o.phase i.1 i.2 h
@@ -74,16 +77,21 @@ sees_numbers p bus.B w (Some (form.Eot f c)) o r h = h
 observed_numbers : (p : Contents) → IsProfile p → (items : List Seen) (o : Observer) → Holds o → Holds (observed p items o)
 observed_numbers p is [] o h = h
 observed_numbers p is (i ∷ items) o h =
-    observed_numbers p is items (sees p i o) (sees_numbers p i.bus i.word (form_of p.codes i.bus i.word) o (λ x e. ((form_of-is p is i.bus i.word x).0 e).1.range) h)
+    observed_numbers p is items (sees p i o)
+    (sees_numbers p i.bus i.word (form_of p.codes i.bus i.word) o (λ x e. ((form_of-is p is i.bus i.word x).0 e).1.range) h)
 
 -- ---- a form that is allowed, and one of its kind that stands in a word
 
 abbrev AllowsRanged : Observer → Kind → Type 0
 AllowsRanged o k = (x : Form) × IsInRange x × (kind_of x ≡ k) × AllowsForm o (bus_of x) (Some x)
 
-answer_ranged : (o : Observer) (phase : SinkPhase) (x : Form) → HasNumbers o.count phase → MayAnswer o.count phase x → (y : Form) × IsInRange y × (kind_of y ≡ kind_of x) × (bus.B ≡ bus_of y) × MayAnswer o.count phase y
-answer_ranged o OwesClear (form.Cts n) h a = let low = h.0 in let high = h.1 in let same : n ≡ o.count = a in (form.Cts n, (omega arith, omega arith), refl, refl, a)
-answer_ranged o (OwesAck b flags) (form.Ack f l) h a = let file = h.0 in let ldu = h.1 in let one : f ≡ b.file = a.0 in let two : l ≡ b.ldu = a.1 in (form.Ack f l, (omega arith, omega arith), refl, refl, a)
+answer_ranged : (o : Observer) (phase : SinkPhase) (x : Form) → HasNumbers o.count phase → MayAnswer o.count phase x
+    → (y : Form) × IsInRange y × (kind_of y ≡ kind_of x) × (bus.B ≡ bus_of y) × MayAnswer o.count phase y
+answer_ranged o OwesClear (form.Cts n) h a =
+    let low = h.0 in let high = h.1 in let same : n ≡ o.count = a in (form.Cts n, (omega arith, omega arith), refl, refl, a)
+answer_ranged o (OwesAck b flags) (form.Ack f l) h a =
+    let file = h.0 in let ldu = h.1 in let one : f ≡ b.file = a.0 in let two : l ≡ b.ldu = a.1 in
+    (form.Ack f l, (omega arith, omega arith), refl, refl, a)
 answer_ranged o (OwesAck b flags) (form.Nak bits) h a = (form.Nak 0, omega arith, refl, refl, tt)
 answer_ranged o OwesNak (form.Nak bits) h a = (form.Nak 0, omega arith, refl, refl, tt)
 answer_ranged o _ _ h a = absurd a
@@ -104,14 +112,21 @@ ranged o bus.B x h a =
 
 word_from : (p : Contents) → IsProfile p → (o : Observer) (k : Kind) → AllowsRanged o k → AllowsWordOf p o k
 word_from p is o k y =
-    let read = form_of-word_number p is y.0 y.1 in
-    (record { bus = bus_of y.0; word = word_number p.codes y.0 }, y.0, read, y.2, inr (subst (λ f. AllowsForm o (bus_of y.0) f) (sym read) y.3))
+    let read = form_of-word_number p is y.0 y.1 in (
+      record { bus = bus_of y.0; word = word_number p.codes y.0 },
+      y.0,
+      read,
+      y.2,
+      inr (subst (λ f. AllowsForm o (bus_of y.0) f) (sym read) y.3),
+    )
 
-allowed_form : (p : Contents) → IsProfile p → (o : Observer) (i : Seen) (x : Form) → form_of p.codes i.bus i.word ≡ Some x → Allows p o i → AllowsForm o i.bus (Some x)
+allowed_form : (p : Contents) → IsProfile p → (o : Observer) (i : Seen) (x : Form) → form_of p.codes i.bus i.word ≡ Some x → Allows p o i
+    → AllowsForm o i.bus (Some x)
 allowed_form p is o i x e (inl free) = let none = (is_read p is).free i.bus i.word free in absurd (cc (sym none ∙ e))
 allowed_form p is o i x e (inr a) = subst (λ f. AllowsForm o i.bus f) e a
 
-pub listed_where_word : (p : Contents) → IsProfile p → (items : List Seen) (k : Kind) → Contains (kinds_allowed (observed p items at_first)) k ↔ AllowsWordOf p (observed p items at_first) k
+pub listed_where_word : (p : Contents) → IsProfile p → (items : List Seen) (k : Kind)
+    → Contains (kinds_allowed (observed p items at_first)) k ↔ AllowsWordOf p (observed p items at_first) k
 listed_where_word p is items k =
     let o = observed p items at_first in (
       λ c. to_word o (observed_numbers p is items at_first tt) ((listed_where_allowed o k).0 c),

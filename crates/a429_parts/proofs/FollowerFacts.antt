@@ -17,9 +17,11 @@ use Rattle.a429_parts.specs.Follower.{HasEnded, Remembers}
 
 -- a free word has no form
 pub free_none : (c : Codes) (b : Bus) (w : ℕ) → is_free c b w ≡ true → form_of c b w ≡ None
-free_none c b w free = sym (form_of-sight c b w) ∙ subst (λ (t : Bool). form_in (if t then sight.Free else sight_in (form_of c b w)) ≡ None) (sym free) refl
+free_none c b w free =
+    sym (form_of-sight c b w) ∙ subst (λ (t : Bool). form_in (if t then sight.Free else sight_in (form_of c b w)) ≡ None) (sym free) refl
 
-ended : (p : Contents) (last : Option Number) (count flags check : ℕ) (phase : SinkPhase) → HasGrant phase → HasEnded flags (at_end p last count (end_word flags check) phase)
+ended : (p : Contents) (last : Option Number) (count flags check : ℕ) (phase : SinkPhase)
+    → HasGrant phase → HasEnded flags (at_end p last count (end_word flags check) phase)
 ended p last count flags check Granted grant = tt
 ended p last count flags check (InBlock b) grant = by_good (is_good p last count b check)
   where
@@ -39,10 +41,14 @@ no_answer count flags check (InBlock b) may = may
 no_answer count flags check (OwesAck b end) may = may
 no_answer count flags check OwesNak may = may
 
-end_seen : (p : Contents) (o : Observer) (b : Bus) (w flags check : ℕ) (last : Option UnitNumber) → AllowsForm o b (Some (Eot flags check)) → last ≡ option_map (λ n. n.number) o.last → Remembers last flags (sees_form p b w (Some (Eot flags check)) o)
+end_seen : (p : Contents) (o : Observer) (b : Bus) (w flags check : ℕ) (last : Option UnitNumber) → AllowsForm o b (Some (Eot flags check))
+    → last ≡ option_map (λ n. n.number) o.last → Remembers last flags (sees_form p b w (Some (Eot flags check)) o)
 end_seen p o bus.A w flags check last allows same = (same, ended p o.last o.count flags check o.phase allows)
 end_seen p o bus.B w flags check last allows same = absurd (no_answer o.count flags check o.phase allows)
 
-pub end_remembered : (p : Contents) (o : Observer) (b : Bus) (w : ℕ) (f : Form) (flags check : ℕ) (last : Option UnitNumber) → f ≡ Eot flags check → AllowsForm o b (Some f) → last ≡ option_map (λ n. n.number) o.last → Remembers last flags (sees_form p b w (Some f) o)
+pub end_remembered : (p : Contents) (o : Observer) (b : Bus) (w : ℕ) (f : Form) (flags check : ℕ) (last : Option UnitNumber)
+    → f ≡ Eot flags check → AllowsForm o b (Some f) → last ≡ option_map (λ n. n.number) o.last
+    → Remembers last flags (sees_form p b w (Some f) o)
 end_remembered p o b w f flags check last is allows same =
-    subst (λ (x : Form). Remembers last flags (sees_form p b w (Some x) o)) (sym is) (end_seen p o b w flags check last (subst (λ (x : Form). AllowsForm o b (Some x)) is allows) same)
+    subst (λ (x : Form). Remembers last flags (sees_form p b w (Some x) o)) (sym is)
+    (end_seen p o b w flags check last (subst (λ (x : Form). AllowsForm o b (Some x)) is allows) same)

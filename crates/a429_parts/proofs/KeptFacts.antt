@@ -21,13 +21,16 @@ use Rattle.a429_link.proofs.StateHolds.{HoldsAt, owed_form, sends, start_holds, 
 use Rattle.a429_parts.specs.Kept.{HasRun, IsWithoutFree, kept}
 
 -- a free word has no form
-says_nothing : (p : Contents) → IsRead p → (b : Bus) (i : Seen) (x : Message) → i.bus ≡ b → is_free p.codes i.bus i.word ≡ true → message_of p b i.word ≡ Some x → ⊥
+says_nothing : (p : Contents)
+    → IsRead p → (b : Bus) (i : Seen) (x : Message) → i.bus ≡ b → is_free p.codes i.bus i.word ≡ true → message_of p b i.word ≡ Some x → ⊥
 says_nothing p good b i x e free says =
-    let none : message_of p b i.word ≡ None = ap (message_in i.word) (good.free b i.word (subst (λ (q : Bus). is_free p.codes q i.word ≡ true) e free)) in
+    let none : message_of p b i.word ≡ None =
+    ap (message_in i.word) (good.free b i.word (subst (λ (q : Bus). is_free p.codes q i.word ≡ true) e free)) in
     cc
 
 -- a step that records a free word changes nothing
-changes_nothing : (p : Contents) → IsRead p → (a : Step) (i : Seen) (s : State) → label a ≡ Some i → is_free p.codes i.bus i.word ≡ true → Can p a s → HoldsAt p s → after p a s ≡ s
+changes_nothing : (p : Contents) → IsRead p → (a : Step) (i : Seen) (s : State) → label a ≡ Some i → is_free p.codes i.bus i.word ≡ true
+    → Can p a s → HoldsAt p s → after p a s ≡ s
 changes_nothing p good (FreeSeen j) i s e free c f = refl
 changes_nothing p good (Sent j) i s e free c f =
     let same : j ≡ i = cc in
@@ -58,40 +61,73 @@ record Goes (p : Contents) (steps : List Step) (s : State) (items : List Seen) :
 abbrev Without : Contents → List Step → State → Type 0
 Without p steps s = (items : List Seen) → IsWithoutFree p.codes (trace steps) items → Goes p steps s items
 
-without_step : (p : Contents) → IsRead p → (a : Step) (steps : List Step) (s : State) (items : List Seen) (l : Option Seen) → label a ≡ l → Can p a s → HoldsAt p s → IsWithoutFree p.codes (with_label l (trace steps)) items → Without p steps (after p a s) → Goes p (a ∷ steps) s items
+without_step : (p : Contents)
+    → IsRead p → (a : Step) (steps : List Step) (s : State) (items : List Seen) (l : Option Seen) → label a ≡ l → Can p a s → HoldsAt p s
+    → IsWithoutFree p.codes (with_label l (trace steps)) items → Without p steps (after p a s) → Goes p (a ∷ steps) s items
 without_step p good a steps s items None e c f w more =
     let next = more items w in
-    record { acts = a ∷ next.acts; run = (c, next.run); records = ap (λ o. with_label o (trace next.acts)) e ∙ next.records; ends = next.ends }
+    record {
+      acts = a ∷ next.acts;
+      run = (c, next.run);
+      records = ap (λ o. with_label o (trace next.acts)) e ∙ next.records;
+      ends = next.ends;
+    }
 without_step p good a steps s items (Some i) e c f (inl (free, w)) more =
     let next = more items w in
     let still = changes_nothing p good a i s e free c f in
-    record { acts = next.acts; run = subst (IsRun p next.acts) still next.run; records = next.records; ends = subst (λ (t : State). end_of p next.acts t ≡ end_of p steps (after p a s)) still next.ends }
+    record {
+      acts = next.acts;
+      run = subst (IsRun p next.acts) still next.run;
+      records = next.records;
+      ends = subst (λ (t : State). end_of p next.acts t ≡ end_of p steps (after p a s)) still next.ends;
+    }
 without_step p good a steps s items (Some i) e c f (inr (others, q, w)) more =
     let next = more others w in
-    record { acts = a ∷ next.acts; run = (c, next.run); records = ap (λ o. with_label o (trace next.acts)) e ∙ (ap (λ (t : List Seen). i ∷ t) next.records ∙ sym q); ends = next.ends }
+    record {
+      acts = a ∷ next.acts;
+      run = (c, next.run);
+      records = ap (λ o. with_label o (trace next.acts)) e ∙ (ap (λ (t : List Seen). i ∷ t) next.records ∙ sym q);
+      ends = next.ends;
+    }
 
 without : (p : Contents) → IsRead p → (steps : List Step) (s : State) → IsRun p steps s → HoldsAt p s → Without p steps s
 without p good [] s h f items w = record { acts = []; run = tt; records = sym w; ends = refl }
-without p good (a ∷ steps) s h f items w = without_step p good a steps s items (label a) refl h.0 f w (without p good steps (after p a s) h.1 (step_holds p good a s h.0 f))
+without p good (a ∷ steps) s h f items w =
+    without_step p good a steps s items (label a) refl h.0 f w (without p good steps (after p a s) h.1 (step_holds p good a s h.0 f))
 
 -- ---- with them
 
 abbrev Within : Contents → List Seen → Type 0
 Within p items = (steps : List Step) (s : State) → IsRun p steps s → IsWithoutFree p.codes items (trace steps) → Goes p steps s items
 
-within_step : (p : Contents) (i : Seen) (items others : List Seen) → Within p items → (a : Step) (steps : List Step) (s : State) (l : Option Seen) → label a ≡ l → IsRun p (a ∷ steps) s → with_label l (trace steps) ≡ i ∷ others → IsWithoutFree p.codes items others → (trace steps ≡ i ∷ others → Goes p steps (after p a s) (i ∷ items)) → Goes p (a ∷ steps) s (i ∷ items)
+within_step : (p : Contents) (i : Seen) (items others : List Seen) → Within p items → (a : Step) (steps : List Step) (s : State)
+    (l : Option Seen) → label a ≡ l → IsRun p (a ∷ steps) s → with_label l (trace steps) ≡ i ∷ others → IsWithoutFree p.codes items others
+    → (trace steps ≡ i ∷ others → Goes p steps (after p a s) (i ∷ items)) → Goes p (a ∷ steps) s (i ∷ items)
 within_step p i items others more a steps s None e h q w later =
     let next = later q in
-    record { acts = a ∷ next.acts; run = (h.0, next.run); records = ap (λ o. with_label o (trace next.acts)) e ∙ next.records; ends = next.ends }
+    record {
+      acts = a ∷ next.acts;
+      run = (h.0, next.run);
+      records = ap (λ o. with_label o (trace next.acts)) e ∙ next.records;
+      ends = next.ends;
+    }
 within_step p i items others more a steps s (Some j) e h q w later =
     let same : j ≡ i = cc in
     let left : trace steps ≡ others = cc in
     let next = more steps (after p a s) h.1 (subst (IsWithoutFree p.codes items) (sym left) w) in
-    record { acts = a ∷ next.acts; run = (h.0, next.run); records = ap (λ o. with_label o (trace next.acts)) e ∙ (ap (λ (x : Seen). x ∷ trace next.acts) same ∙ ap (λ (t : List Seen). i ∷ t) next.records); ends = next.ends }
+    record {
+      acts = a ∷ next.acts;
+      run = (h.0, next.run);
+      records = ap (λ o. with_label o (trace next.acts)) e
+          ∙ (ap (λ (x : Seen). x ∷ trace next.acts) same ∙ ap (λ (t : List Seen). i ∷ t) next.records);
+      ends = next.ends;
+    }
 
-within_steps : (p : Contents) (i : Seen) (items others : List Seen) → Within p items → (steps : List Step) (s : State) → IsRun p steps s → trace steps ≡ i ∷ others → IsWithoutFree p.codes items others → Goes p steps s (i ∷ items)
+within_steps : (p : Contents) (i : Seen) (items others : List Seen) → Within p items → (steps : List Step) (s : State) → IsRun p steps s
+    → trace steps ≡ i ∷ others → IsWithoutFree p.codes items others → Goes p steps s (i ∷ items)
 within_steps p i items others more [] s h q w = absurd (cc q)
-within_steps p i items others more (a ∷ steps) s h q w = within_step p i items others more a steps s (label a) refl h q w (λ r. within_steps p i items others more steps (after p a s) h.1 r w)
+within_steps p i items others more (a ∷ steps) s h q w =
+    within_step p i items others more a steps s (label a) refl h q w (λ r. within_steps p i items others more steps (after p a s) h.1 r w)
 
 within : (p : Contents) (items : List Seen) → Within p items
 within p [] steps s h w = record { acts = steps; run = h; records = w; ends = refl }
@@ -109,10 +145,14 @@ has_run p r items goes = record {
   delivers = ap (λ (t : State). t.sink.received.files) goes.ends;
 }
 
-pub left_out : (p : Contents) (r : RunOf p) (items : List Seen) → IsWithoutFree p.codes (trace r.steps) items → HasRun p items (delivered_by r)
-left_out p r items w = has_run p r items (without p (is_read p r.is_run.sound) r.steps (start p r.first) r.is_run.run (start_holds p r.first r.is_run.byte) items w)
+pub left_out : (p : Contents) (r : RunOf p) (items : List Seen)
+    → IsWithoutFree p.codes (trace r.steps) items → HasRun p items (delivered_by r)
+left_out p r items w =
+    has_run p r items
+    (without p (is_read p r.is_run.sound) r.steps (start p r.first) r.is_run.run (start_holds p r.first r.is_run.byte) items w)
 
-pub put_in : (p : Contents) (r : RunOf p) (items : List Seen) → IsWithoutFree p.codes items (trace r.steps) → HasRun p items (delivered_by r)
+pub put_in : (p : Contents) (r : RunOf p) (items : List Seen)
+    → IsWithoutFree p.codes items (trace r.steps) → HasRun p items (delivered_by r)
 put_in p r items w = has_run p r items (within p items r.steps (start p r.first) r.is_run.run w)
 
 -- ---- words of another label are free
@@ -125,12 +165,17 @@ abbrev has_even_parity : Entry → Bool
 has_even_parity e = not (count_of_ones e.word % 2 == 1)
 
 abbrev is_ignored : Codes → Entry → Bool
-is_ignored c e = list_any (λ n. n == number_at e.word 29 3) c.ignored_types || (number_at e.word 29 3 == c.protocol && list_any (λ n. n == number_at e.word 25 4) c.ignored_codes)
+is_ignored c e =
+    list_any (λ n. n == number_at e.word 29 3) c.ignored_types
+    || (number_at e.word 29 3 == c.protocol && list_any (λ n. n == number_at e.word 25 4) c.ignored_codes)
 
 other_label : (c : Codes) (e : Entry) → (label_of e.word == address_of c e.bus) ≡ false → is_free c e.bus e.word ≡ true
-other_label c e h = subst (λ (q : Bool). (has_even_parity e || (not q || is_ignored c e)) ≡ true) (sym h) (any_or (has_even_parity e) (is_ignored c e))
+other_label c e h =
+    subst (λ (q : Bool). (has_even_parity e || (not q || is_ignored c e)) ≡ true) (sym h) (any_or (has_even_parity e) (is_ignored c e))
 
-kept_item : (c : Codes) (e : Entry) (es : List Entry) (b : Bool) → (label_of e.word == address_of c e.bus) ≡ b → IsWithoutFree c (items_of es) (items_of (kept c es)) → IsWithoutFree c (items_of (e ∷ es)) (items_of (if b then e ∷ kept c es else kept c es))
+kept_item : (c : Codes) (e : Entry) (es : List Entry) (b : Bool)
+    → (label_of e.word == address_of c e.bus) ≡ b → IsWithoutFree c (items_of es) (items_of (kept c es))
+    → IsWithoutFree c (items_of (e ∷ es)) (items_of (if b then e ∷ kept c es else kept c es))
 kept_item c e es true h w = inr (items_of (kept c es), refl, w)
 kept_item c e es false h w = inl (other_label c e h, w)
 

@@ -48,19 +48,29 @@ pub record Rerun (p : Contents) (files : List FileBytes) (steps : List Step) (s 
   pub delivers : (end_of p steps s).sink.received.files ≡ files ++ (end_of p again t).sink.received.files
 
 -- a step that both make
-both_step : (p : Contents) (files : List FileBytes) (a : Step) (steps : List Step) (s t : State) → Can p a t → Rerun p files steps (after p a s) (after p a t) → Rerun p files (a ∷ steps) s t
-both_step p files a steps s t can r = record { again = a ∷ r.again; run = (can, r.run); records = ap (with_label (label a)) r.records; delivers = r.delivers }
+both_step : (p : Contents) (files : List FileBytes) (a : Step) (steps : List Step) (s t : State)
+    → Can p a t → Rerun p files steps (after p a s) (after p a t) → Rerun p files (a ∷ steps) s t
+both_step p files a steps s t can r =
+    record { again = a ∷ r.again; run = (can, r.run); records = ap (with_label (label a)) r.records; delivers = r.delivers }
 
 -- a step that records nothing, and that the second leaves out
-one_step : (p : Contents) (files : List FileBytes) (a : Step) (steps : List Step) (s t : State) → label a ≡ None → Rerun p files steps (after p a s) t → Rerun p files (a ∷ steps) s t
-one_step p files a steps s t none r = record { again = r.again; run = r.run; records = r.records ∙ sym (ap (λ (l : Option Seen). with_label l (trace steps)) none); delivers = r.delivers }
+one_step : (p : Contents) (files : List FileBytes) (a : Step) (steps : List Step) (s t : State)
+    → label a ≡ None → Rerun p files steps (after p a s) t → Rerun p files (a ∷ steps) s t
+one_step p files a steps s t none r = record {
+  again = r.again;
+  run = r.run;
+  records = r.records ∙ sym (ap (λ (l : Option Seen). with_label l (trace steps)) none);
+  delivers = r.delivers;
+}
 
 -- files that were delivered before change nothing else
-earlier_rerun : (p : Contents) (files : List FileBytes) (steps : List Step) (t : State) → IsRun p steps (with_earlier files t) → Rerun p files steps (with_earlier files t) t
+earlier_rerun : (p : Contents) (files : List FileBytes) (steps : List Step) (t : State)
+    → IsRun p steps (with_earlier files t) → Rerun p files steps (with_earlier files t) t
 earlier_rerun p files [] t run = record { again = []; run = tt; records = refl; delivers = refl }
 earlier_rerun p files (a ∷ steps) t run =
     let later = earlier_rerun p files steps (after p a t) (subst (IsRun p steps) (after_earlier p a files t) run.1) in
-    both_step p files a steps (with_earlier files t) t (can_later p a files t run.0) (subst (λ (s : State). Rerun p files steps s (after p a t)) (sym (after_earlier p a files t)) later)
+    both_step p files a steps (with_earlier files t) t (can_later p a files t run.0)
+    (subst (λ (s : State). Rerun p files steps s (after p a t)) (sym (after_earlier p a files t)) later)
 
 -- ---- a sink that has accepted the last unit of a file, and one that has accepted nothing
 
@@ -84,7 +94,8 @@ part_alike : (word : ℕ) (kp : SinkPhase) (count other : ℕ) → AskedAlike kp
 part_alike word kp count other (inl quiet) = inl (ap (at_part word) quiet)
 part_alike word kp count other (inr same) = inr same
 
-end_alike : (p : Contents) (last : Option Number) (e : EndWord) (kp : SinkPhase) (count other : ℕ) → AskedAlike kp count other → AskedAlike (at_end p last count e kp) count other
+end_alike : (p : Contents) (last : Option Number) (e : EndWord) (kp : SinkPhase) (count other : ℕ)
+    → AskedAlike kp count other → AskedAlike (at_end p last count e kp) count other
 end_alike p last e kp count other (inl quiet) = inl (ap (at_end p last count e) quiet)
 end_alike p last e kp count other (inr same) = inr same
 
@@ -93,14 +104,20 @@ abbrev ComesAlike : Codes → Option Number → Option Number → SinkPhase → 
 ComesAlike c last before (InBlock b) = may_come c last (number_of b) ≡ may_come c before (number_of b)
 ComesAlike c last before kp = Unit {0}
 
-good_alike : (p : Contents) (last before : Option Number) (count other : ℕ) (b : Block) (check : ℕ) → count ≡ other → may_come p.codes last (number_of b) ≡ may_come p.codes before (number_of b) → is_good p last count b check ≡ is_good p before other b check
+good_alike : (p : Contents) (last before : Option Number) (count other : ℕ) (b : Block) (check : ℕ)
+    → count ≡ other → may_come p.codes last (number_of b) ≡ may_come p.codes before (number_of b)
+    → is_good p last count b check ≡ is_good p before other b check
 good_alike p last before count other b check same comes =
     ap (λ (n : ℕ). is_good p last n b check) same
-    ∙ ap (λ (t : Bool). eqb (length b.words + 2) other && (is_some (bytes_carried p.codes b.words) && (agrees p.check (bytes_in p.codes b.words) check && t))) comes
+    ∙ ap (λ (t : Bool).
+    eqb (length b.words + 2) other && (is_some (bytes_carried p.codes b.words) && (agrees p.check (bytes_in p.codes b.words) check && t)))
+    comes
 
-at_end_alike : (p : Contents) (last before : Option Number) (count other : ℕ) (e : EndWord) (kp : SinkPhase) → AskedAlike kp count other → ComesAlike p.codes last before kp → at_end p last count e kp ≡ at_end p before other e kp
+at_end_alike : (p : Contents) (last before : Option Number) (count other : ℕ) (e : EndWord) (kp : SinkPhase)
+    → AskedAlike kp count other → ComesAlike p.codes last before kp → at_end p last count e kp ≡ at_end p before other e kp
 at_end_alike p last before count other e kp (inl quiet) comes = ap (at_end p last count e) quiet ∙ sym (ap (at_end p before other e) quiet)
-at_end_alike p last before count other e (InBlock b) (inr same) comes = ap (λ (t : Bool). cond t (OwesAck b e.flags) OwesNak) (good_alike p last before count other b e.check same comes)
+at_end_alike p last before count other e (InBlock b) (inr same) comes =
+    ap (λ (t : Bool). cond t (OwesAck b e.flags) OwesNak) (good_alike p last before count other b e.check same comes)
 at_end_alike p last before count other e Granted (inr same) comes = refl
 at_end_alike p last before count other e Quiet (inr same) comes = refl
 at_end_alike p last before count other e OwesClear (inr same) comes = refl
@@ -108,7 +125,8 @@ at_end_alike p last before count other e (OwesAck b flags) (inr same) comes = re
 at_end_alike p last before count other e OwesNak (inr same) comes = refl
 
 -- both sinks after a word of bus A
-record Taken (p : Contents) (x : Message) (last before : Option Number) (received nothing : Received) (count other : ℕ) (kp : SinkPhase) : Type 0 where
+record Taken (p : Contents) (x : Message) (last before : Option Number) (received nothing : Received) (count other : ℕ)
+    (kp : SinkPhase) : Type 0 where
   now : ℕ
   other_now : ℕ
   phase : SinkPhase
@@ -121,15 +139,21 @@ abbrev EndsAlike : Codes → Message → Option Number → Option Number → Sin
 EndsAlike c (Eot flags check) last before kp = ComesAlike c last before kp
 EndsAlike c x last before kp = Unit {0}
 
-take_both : (p : Contents) (x : Message) (last before : Option Number) (received nothing : Received) (count other : ℕ) (kp : SinkPhase) → AskedAlike kp count other → EndsAlike p.codes x last before kp → Taken p x last before received nothing count other kp
-take_both p (Rts n) last before received nothing count other kp alike ends = record { now = n; other_now = n; phase = OwesClear; alike = inr refl; one = refl; second = refl }
-take_both p (Cts n) last before received nothing count other kp alike ends = record { now = count; other_now = other; phase = kp; alike = alike; one = refl; second = refl }
-take_both p (Ack f l) last before received nothing count other kp alike ends = record { now = count; other_now = other; phase = kp; alike = alike; one = refl; second = refl }
-take_both p (Nak n) last before received nothing count other kp alike ends = record { now = count; other_now = other; phase = kp; alike = alike; one = refl; second = refl }
+take_both : (p : Contents) (x : Message) (last before : Option Number) (received nothing : Received) (count other : ℕ) (kp : SinkPhase)
+    → AskedAlike kp count other → EndsAlike p.codes x last before kp → Taken p x last before received nothing count other kp
+take_both p (Rts n) last before received nothing count other kp alike ends =
+    record { now = n; other_now = n; phase = OwesClear; alike = inr refl; one = refl; second = refl }
+take_both p (Cts n) last before received nothing count other kp alike ends =
+    record { now = count; other_now = other; phase = kp; alike = alike; one = refl; second = refl }
+take_both p (Ack f l) last before received nothing count other kp alike ends =
+    record { now = count; other_now = other; phase = kp; alike = alike; one = refl; second = refl }
+take_both p (Nak n) last before received nothing count other kp alike ends =
+    record { now = count; other_now = other; phase = kp; alike = alike; one = refl; second = refl }
 take_both p (Sot g f l) last before received nothing count other kp alike ends =
     let b : Block = record { gfi = g; file = f; ldu = l; words = [] } in
     record { now = count; other_now = other; phase = at_start b kp; alike = start_alike b kp count other alike; one = refl; second = refl }
-take_both p (Part w) last before received nothing count other kp alike ends = record { now = count; other_now = other; phase = at_part w kp; alike = part_alike w kp count other alike; one = refl; second = refl }
+take_both p (Part w) last before received nothing count other kp alike ends =
+    record { now = count; other_now = other; phase = at_part w kp; alike = part_alike w kp count other alike; one = refl; second = refl }
 take_both p (Eot flags check) last before received nothing count other kp alike ends =
     let e : EndWord = end_word flags check in
     record {
@@ -157,16 +181,21 @@ IsLaterBy c unit q = IsLater c unit q.number q.give_ups
 later_other : (c : Codes) (unit n : UnitNumber) (g : ℕ) → unit.file ≤ 255 → g ≤ 127 → IsLater c unit n g → unit.file ≡ n.file → ⊥
 later_other c unit n g byte few h same = let some = h.some in let most = h.few in let at = h.file in omega arith
 
-later_comes : (c : Codes) (unit n : UnitNumber) (g : ℕ) → unit.file ≤ 255 → g ≤ 127 → IsLater c unit n g → may_come c (crossed unit) n ≡ may_come c None n
+later_comes : (c : Codes) (unit n : UnitNumber) (g : ℕ)
+    → unit.file ≤ 255 → g ≤ 127 → IsLater c unit n g → may_come c (crossed unit) n ≡ may_come c None n
 later_comes c unit n g byte few h =
     let some = h.some in let most = h.few in let at = h.file in
     let past : files_past n.file unit.file ≡ h.files = omega arith in
     let first : eqb n.ldu c.first_ldu ≡ true = eq-eqb n.ldu c.first_ldu h.ldu in
-    or_right (is_same (crossed unit) n) _ (or_left (begins_file c unit n) _ (and_from _ _ first (and_from _ _ (le-leb 1 (files_past n.file unit.file) (omega arith)) (le-leb (files_past n.file unit.file) 128 (omega arith)))))
+    or_right (is_same (crossed unit) n) _
+    (or_left (begins_file c unit n) _ (and_from _ _ first
+    (and_from _ _ (le-leb 1 (files_past n.file unit.file) (omega arith)) (le-leb (files_past n.file unit.file) 128 (omega arith)))))
     ∙ sym first
 
 next_later : (c : Codes) (unit n : UnitNumber) (g : ℕ) → IsLater c unit n g → IsLater c unit (first_number c ((n.file + 1) % 256)) (suc g)
-next_later c unit n g h = let few = h.few in let at = h.file in record { files = suc h.files; some = omega arith; few = omega arith; file = omega arith; ldu = refl }
+next_later c unit n g h =
+    let few = h.few in let at = h.file in
+    record { files = suc h.files; some = omega arith; few = omega arith; file = omega arith; ldu = refl }
 
 -- the block that an end word ends has the source's number
 block_is : (number : UnitNumber) (u : LduValue) (b : Block) → IsSubsequenceOf (taken_messages b) (front u number) → number_of b ≡ number
@@ -174,15 +203,20 @@ block_is number u b h =
     let all = sub_start b.gfi b.file b.ldu u.gfi number.file number.ldu b.words u.words h in
     number_from (number_of b) number all.0 all.1
 
-ended_number : (number : UnitNumber) (cur : Option LduValue) (sp : SourceState) (count : ℕ) (kp : SinkPhase) (flags check : ℕ) (xs ys : List Message) (b : Block) → kp ≡ InBlock b → Config number cur sp count kp (Eot flags check ∷ xs) ys → number_of b ≡ number
+ended_number : (number : UnitNumber) (cur : Option LduValue) (sp : SourceState) (count : ℕ) (kp : SinkPhase) (flags check : ℕ)
+    (xs ys : List Message) (b : Block) → kp ≡ InBlock b → Config number cur sp count kp (Eot flags check ∷ xs) ys → number_of b ≡ number
 ended_number number cur sp count kp flags check xs ys b e (sending {u} {k} r g c le h) =
     let all = subst (λ (q : SinkPhase). IsSubsequenceOf (block_taken q ++ Eot flags check ∷ xs) (take k (front u number))) e h in
-    block_is number u b (sub_forth (taken_messages b) (Eot flags check ∷ xs) (front u number) (sub_take k (taken_messages b ++ Eot flags check ∷ xs) (front u number) all))
+    block_is number u b
+    (sub_forth (taken_messages b) (Eot flags check ∷ xs) (front u number)
+    (sub_take k (taken_messages b ++ Eot flags check ∷ xs) (front u number) all))
 ended_number number cur sp count kp flags check xs ys b e (waiting {u} r g c h) =
     let all = subst (λ (q : SinkPhase). IsSubsequenceOf (block_taken q ++ Eot flags check ∷ xs) (block_messages u number)) e h in
     block_is number u b (sub_end flags check (end_message u) (taken_messages b) xs (front u number) (front_words u number) all).2
 
-later_ends : (c : Codes) (unit number : UnitNumber) (g : ℕ) (cur : Option LduValue) (sp : SourceState) (count : ℕ) (kp : SinkPhase) (x : Message) (xs ys : List Message) → unit.file ≤ 255 → g ≤ 127 → IsLater c unit number g → Config number cur sp count kp (x ∷ xs) ys → EndsAlike c x (crossed unit) None kp
+later_ends : (c : Codes) (unit number : UnitNumber) (g : ℕ) (cur : Option LduValue) (sp : SourceState) (count : ℕ) (kp : SinkPhase)
+    (x : Message) (xs ys : List Message)
+    → unit.file ≤ 255 → g ≤ 127 → IsLater c unit number g → Config number cur sp count kp (x ∷ xs) ys → EndsAlike c x (crossed unit) None kp
 later_ends c unit number g cur sp count (InBlock b) (Eot flags check) xs ys byte few h fits =
     let same = ended_number number cur sp count (InBlock b) flags check xs ys b refl fits in
     subst (λ (n : UnitNumber). may_come c (crossed unit) n ≡ may_come c None n) (sym same) (later_comes c unit number g byte few h)
@@ -199,32 +233,47 @@ later_ends c unit number g cur sp count kp (Sot a f l) xs ys byte few h fits = t
 later_ends c unit number g cur sp count kp (Part w) xs ys byte few h fits = tt
 
 -- an answer that is no acknowledgement leaves the source's number
-either_later : (c : Codes) (unit : UnitNumber) (t : Bool) (a b : Source) → IsLaterBy c unit a → IsLaterBy c unit b → IsLaterBy c unit (cond t a b)
+either_later : (c : Codes) (unit : UnitNumber) (t : Bool) (a b : Source)
+    → IsLaterBy c unit a → IsLaterBy c unit b → IsLaterBy c unit (cond t a b)
 either_later c unit true a b h k = h
 either_later c unit false a b h k = k
 
-heard_later : (p : Contents) (unit : UnitNumber) (g : ℕ) (number : UnitNumber) (cur : Option LduValue) (sp : SourceState) (count : ℕ) (kp : SinkPhase) (xs : List Message) (y : Message) (ys : List Message) → Config number cur sp count kp xs (y ∷ ys) → (IsAck (Some y) → ⊥) → IsLater p.codes unit number g → IsLaterBy p.codes unit (with_answer_message p cur sp y (source_at g number cur sp))
+heard_later : (p : Contents) (unit : UnitNumber) (g : ℕ) (number : UnitNumber) (cur : Option LduValue) (sp : SourceState) (count : ℕ)
+    (kp : SinkPhase) (xs : List Message) (y : Message) (ys : List Message)
+    → Config number cur sp count kp xs (y ∷ ys) → (IsAck (Some y) → ⊥) → IsLater p.codes unit number g
+    → IsLaterBy p.codes unit (with_answer_message p cur sp y (source_at g number cur sp))
 heard_later p unit g number cur sp count kp xs y ys (cleared {u} {n} r q) never h = either_later p.codes unit (eqb n (count_of u)) _ _ h h
 heard_later p unit g number cur sp count kp xs y ys (refused r) never h = h
 heard_later p unit g number cur sp count kp xs y ys (acked r ef el) never h = absurd (never tt)
 
-hear_later : (p : Contents) (unit : UnitNumber) (q : Source) (count : ℕ) (kp : SinkPhase) (vs : List ℕ) (xs ys : List Message) → IsNonEmpty vs → AllSay p bus.B vs ys → Config q.number q.current q.phase count kp xs ys → (HasAck p vs → ⊥) → IsLaterBy p.codes unit q → IsLaterBy p.codes unit (with_answer_first p.codes vs q)
+hear_later : (p : Contents) (unit : UnitNumber) (q : Source) (count : ℕ) (kp : SinkPhase) (vs : List ℕ) (xs ys : List Message)
+    → IsNonEmpty vs → AllSay p bus.B vs ys → Config q.number q.current q.phase count kp xs ys → (HasAck p vs → ⊥) → IsLaterBy p.codes unit q
+    → IsLaterBy p.codes unit (with_answer_first p.codes vs q)
 hear_later p unit q count kp [] xs ys some says fits never h = absurd some
 hear_later p unit q count kp (v ∷ vs) xs [] some says fits never h = absurd says
 hear_later p unit q count kp (v ∷ vs) xs (y ∷ ys) some says fits never h =
-    subst (IsLaterBy p.codes unit) (sym (with_answer_as p v y q says.0)) (heard_later p unit q.give_ups q.number q.current q.phase count kp xs y ys fits (λ ack. never (subst IsAck (sym says.0) ack)) h)
+    subst (IsLaterBy p.codes unit) (sym (with_answer_as p v y q says.0))
+    (heard_later p unit q.give_ups q.number q.current q.phase count kp xs y ys fits (λ ack. never (subst IsAck (sym says.0) ack)) h)
 
 some_same : (m n : Number) → Some m ≡ Some n → m ≡ n
 some_same m n e = cc e
 
 -- no acknowledgement is on its way
-not_accepted : (p : Contents) (unit : UnitNumber) (number : UnitNumber) (g : ℕ) (cur : Option LduValue) (received o : Received) (fs : List FileBytes) → unit.file ≤ 255 → g ≤ 127 → IsLater p.codes unit number g → HasAccepted p number cur (crossed unit) received o fs → ⊥
+not_accepted : (p : Contents) (unit : UnitNumber) (number : UnitNumber) (g : ℕ) (cur : Option LduValue) (received o : Received)
+    (fs : List FileBytes)
+    → unit.file ≤ 255 → g ≤ 127 → IsLater p.codes unit number g → HasAccepted p number cur (crossed unit) received o fs → ⊥
 not_accepted p unit number g None received o fs byte few h a = a
-not_accepted p unit number g (Some u) received o fs byte few h a = later_other p.codes unit number g byte few h (ap (λ (n : Number). n.number.file) (some_same (record { number = unit; final = true }) (unit_number p.codes number u) a.last_is))
+not_accepted p unit number g (Some u) received o fs byte few h a =
+    later_other p.codes unit number g byte few h
+    (ap (λ (n : Number). n.number.file) (some_same (record { number = unit; final = true }) (unit_number p.codes number u) a.last_is))
 
 -- ---- a unit of a later file is accepted by both
 
-put_behind : (file : ℕ) (bytes : List ℕ) (t : Bool) (received : Received) → put file bytes t (emptied received) ≡ record { files = received.files ++ (put file bytes t nothing_received).files; open_bytes = (put file bytes t nothing_received).open_bytes }
+put_behind : (file : ℕ) (bytes : List ℕ) (t : Bool) (received : Received)
+    → put file bytes t (emptied received) ≡ record {
+      files = received.files ++ (put file bytes t nothing_received).files;
+      open_bytes = (put file bytes t nothing_received).open_bytes;
+    }
 put_behind file bytes true received = refl
 put_behind file bytes false received = ap (λ (l : List FileBytes). filed l) (sym (append-nil received.files))
   where
@@ -235,17 +284,23 @@ put_behind file bytes false received = ap (λ (l : List FileBytes). filed l) (sy
 abbrev behind : List FileBytes → Sink → Sink
 behind files k = record k { received = record (k.received) { files = files ++ k.received.files } }
 
-accept_both : (c : Codes) (unit : UnitNumber) (b : Block) (flags count : ℕ) (received : Received) → eqb unit.file b.file ≡ false → in_phase Quiet (accepts c b flags (sink_at (crossed unit) received count (OwesAck b flags))) ≡ behind received.files (in_phase Quiet (accepts c b flags (sink_at None nothing_received count (OwesAck b flags))))
+accept_both : (c : Codes) (unit : UnitNumber) (b : Block) (flags count : ℕ) (received : Received) → eqb unit.file b.file ≡ false
+    → in_phase Quiet (accepts c b flags (sink_at (crossed unit) received count (OwesAck b flags)))
+    ≡ behind received.files (in_phase Quiet (accepts c b flags (sink_at None nothing_received count (OwesAck b flags))))
 accept_both c unit b flags count received other =
     ap (λ (t : Bool). in_phase Quiet (cond t k (taken (cond (eqb unit.file b.file) received (emptied received))))) (and_left _ _ other)
     ∙ ap (λ (t : Bool). in_phase Quiet (taken (cond t received (emptied received)))) other
-    ∙ ap (λ (r : Received). sink_at (Some (record { number = number_of b; final = is_final c flags })) r count Quiet) (put_behind b.file (bytes_in c b.words) (is_final c flags) received)
+    ∙ ap (λ (r : Received). sink_at (Some (record { number = number_of b; final = is_final c flags })) r count Quiet)
+    (put_behind b.file (bytes_in c b.words) (is_final c flags) received)
   where
     k : Sink
     k = sink_at (crossed unit) received count (OwesAck b flags)
 
     taken : Received → Sink
-    taken r = record k { last = Some (record { number = number_of b; final = is_final c flags }); received = put b.file (bytes_in c b.words) (is_final c flags) r }
+    taken r = record k {
+      last = Some (record { number = number_of b; final = is_final c flags });
+      received = put b.file (bytes_in c b.words) (is_final c flags) r;
+    }
 
 -- ---- the source is past the file that crossed, and no unit was accepted since
 
@@ -267,11 +322,22 @@ Later p unit steps =
     → Rerun p received.files steps (one_state unit q received count kp ws vs) (other_state q other kp ws vs)
 
 -- the sink takes a word
-later_takes : (p : Contents) (unit : UnitNumber) → unit.file ≤ 255 → (steps : List Step) → Later p unit steps → (q : Source) (received : Received) (count other : ℕ) (kp : SinkPhase) (ws vs : List ℕ) (xs ys : List Message) (o : Received) (fs : List FileBytes) → IsNonEmpty ws → Listens kp → AllSay p bus.A ws xs → Config q.number q.current q.phase count kp xs ys → q.give_ups ≤ 127 → IsRun p steps (after p SinkTakes (one_state unit q received count kp ws vs)) → HoldsAt p (after p SinkTakes (one_state unit q received count kp ws vs)) → CrossesAt p (after p SinkTakes (one_state unit q received count kp ws vs)) o fs → IsLaterBy p.codes unit q → AskedAlike kp count other → Rerun p received.files (SinkTakes ∷ steps) (one_state unit q received count kp ws vs) (other_state q other kp ws vs)
-later_takes p unit byte steps go q received count other kp [] vs xs ys o fs some listens says fits few run holds crosses later alike = absurd some
-later_takes p unit byte steps go q received count other kp (w ∷ ws) vs [] ys o fs some listens says fits few run holds crosses later alike = absurd says
-later_takes p unit byte steps go q received count other kp (w ∷ ws) vs (x ∷ xs) ys o fs some listens says fits few run holds crosses later alike =
-    let t = take_both p x (crossed unit) None received nothing_received count other kp alike (later_ends p.codes unit q.number q.give_ups q.current q.phase count kp x xs ys byte few later fits) in
+later_takes : (p : Contents) (unit : UnitNumber) → unit.file ≤ 255 → (steps : List Step) → Later p unit steps → (q : Source)
+    (received : Received) (count other : ℕ) (kp : SinkPhase) (ws vs : List ℕ) (xs ys : List Message) (o : Received) (fs : List FileBytes)
+    → IsNonEmpty ws → Listens kp → AllSay p bus.A ws xs → Config q.number q.current q.phase count kp xs ys → q.give_ups ≤ 127
+    → IsRun p steps (after p SinkTakes (one_state unit q received count kp ws vs))
+    → HoldsAt p (after p SinkTakes (one_state unit q received count kp ws vs))
+    → CrossesAt p (after p SinkTakes (one_state unit q received count kp ws vs)) o fs → IsLaterBy p.codes unit q → AskedAlike kp count other
+    → Rerun p received.files (SinkTakes ∷ steps) (one_state unit q received count kp ws vs) (other_state q other kp ws vs)
+later_takes p unit byte steps go q received count other kp [] vs xs ys o fs some listens says fits few run holds crosses later alike =
+    absurd some
+later_takes p unit byte steps go q received count other kp (w ∷ ws) vs [] ys o fs some listens says fits few run holds crosses later alike =
+    absurd says
+later_takes p unit byte steps go q received count other kp (w ∷ ws) vs (x ∷ xs) ys o fs some listens says fits few run holds crosses later
+    alike =
+    let t =
+    take_both p x (crossed unit) None received nothing_received count other kp alike
+    (later_ends p.codes unit q.number q.give_ups q.current q.phase count kp x xs ys byte few later fits) in
     let one = takes_as p w x (sink_at (crossed unit) received count kp) says.0 ∙ t.one in
     let second = takes_as p w x (sink_at None nothing_received other kp) says.0 ∙ t.second in
     let next =
@@ -280,14 +346,17 @@ later_takes p unit byte steps go q received count other kp (w ∷ ws) vs (x ∷ 
     (subst (λ (k : Sink). HoldsAt p (state q k ws vs)) one holds)
     (subst (λ (k : Sink). CrossesAt p (state q k ws vs) o fs) one crosses)
     later t.alike in
-    both_step p received.files SinkTakes steps (one_state unit q received count kp (w ∷ ws) vs) (other_state q other kp (w ∷ ws) vs) (tt, listens)
+    both_step p received.files SinkTakes steps (one_state unit q received count kp (w ∷ ws) vs) (other_state q other kp (w ∷ ws) vs)
+    (tt, listens)
     (subst (λ (k : Sink). Rerun p received.files steps (state q k ws vs) (after p SinkTakes (other_state q other kp (w ∷ ws) vs))) (sym one)
-    (subst (λ (k : Sink). Rerun p received.files steps (one_state unit q received t.now t.phase ws vs) (state q k ws vs)) (sym second) next))
+    (subst (λ (k : Sink). Rerun p received.files steps (one_state unit q received t.now t.phase ws vs) (state q k ws vs))
+    (sym second) next))
 
 owes_not_quiet : (kp : SinkPhase) → Owes kp → kp ≡ Quiet → ⊥
 owes_not_quiet kp owes quiet = subst Owes quiet owes
 
-whole_number : (number : UnitNumber) (cur : Option LduValue) (sp : SourceState) (count : ℕ) (b : Block) (flags : ℕ) (xs ys : List Message) → Config number cur sp count (OwesAck b flags) xs ys → number_of b ≡ number
+whole_number : (number : UnitNumber) (cur : Option LduValue) (sp : SourceState) (count : ℕ) (b : Block) (flags : ℕ) (xs ys : List Message)
+    → Config number cur sp count (OwesAck b flags) xs ys → number_of b ≡ number
 whole_number number cur sp count b flags xs ys (whole r h) = h.told
 whole_number number cur sp count b flags xs ys (idle f s) = absurd s
 whole_number number cur sp count b flags xs ys (asked r s q) = absurd s
@@ -296,8 +365,16 @@ whole_number number cur sp count b flags xs ys (sending r g c le h) = absurd g
 whole_number number cur sp count b flags xs ys (waiting r g c h) = absurd g
 
 -- the sink answers
-later_answers : (p : Contents) (unit : UnitNumber) → unit.file ≤ 255 → (steps : List Step) → Later p unit steps → (i : Seen) (x : Message) (q : Source) (received : Received) (count other : ℕ) (kp : SinkPhase) (ws vs : List ℕ) (xs ys : List Message) (o : Received) (fs : List FileBytes) → message_of p bus.B i.word ≡ Some x → MaySay count kp x → Can p (Answered i) (other_state q other kp ws vs) → Config q.number q.current q.phase count kp xs ys → q.give_ups ≤ 127 → count ≡ other → IsRun p steps (after p (Answered i) (one_state unit q received count kp ws vs)) → HoldsAt p (after p (Answered i) (one_state unit q received count kp ws vs)) → CrossesAt p (after p (Answered i) (one_state unit q received count kp ws vs)) o fs → IsLaterBy p.codes unit q → Rerun p received.files (Answered i ∷ steps) (one_state unit q received count kp ws vs) (other_state q other kp ws vs)
-later_answers p unit byte steps go i (Cts n) q received count other OwesClear ws vs xs ys o fs is may can fits few same run holds crosses later =
+later_answers : (p : Contents) (unit : UnitNumber) → unit.file ≤ 255 → (steps : List Step) → Later p unit steps
+    → (i : Seen) (x : Message) (q : Source) (received : Received) (count other : ℕ) (kp : SinkPhase) (ws vs : List ℕ) (xs ys : List Message)
+    (o : Received) (fs : List FileBytes) → message_of p bus.B i.word ≡ Some x → MaySay count kp x
+    → Can p (Answered i) (other_state q other kp ws vs) → Config q.number q.current q.phase count kp xs ys → q.give_ups ≤ 127
+    → count ≡ other → IsRun p steps (after p (Answered i) (one_state unit q received count kp ws vs))
+    → HoldsAt p (after p (Answered i) (one_state unit q received count kp ws vs))
+    → CrossesAt p (after p (Answered i) (one_state unit q received count kp ws vs)) o fs → IsLaterBy p.codes unit q
+    → Rerun p received.files (Answered i ∷ steps) (one_state unit q received count kp ws vs) (other_state q other kp ws vs)
+later_answers p unit byte steps go i (Cts n) q received count other OwesClear ws vs xs ys o fs is may can fits few same run holds crosses
+    later =
     let one = answers_as p i.word (Cts n) (sink_at (crossed unit) received count OwesClear) is in
     let second = answers_as p i.word (Cts n) (sink_at None nothing_received other OwesClear) is in
     let all = vs ++ i.word ∷ [] in
@@ -308,8 +385,10 @@ later_answers p unit byte steps go i (Cts n) q received count other OwesClear ws
     (subst (λ (k : Sink). CrossesAt p (state q k ws all) o fs) one crosses)
     later (inr same) in
     both_step p received.files (Answered i) steps _ _ can
-    (subst (λ (k : Sink). Rerun p received.files steps (state q k ws all) (after p (Answered i) (other_state q other OwesClear ws vs))) (sym one)
-    (subst (λ (k : Sink). Rerun p received.files steps (one_state unit q received count Granted ws all) (state q k ws all)) (sym second) next))
+    (subst (λ (k : Sink). Rerun p received.files steps (state q k ws all) (after p (Answered i) (other_state q other OwesClear ws vs)))
+    (sym one)
+    (subst (λ (k : Sink). Rerun p received.files steps (one_state unit q received count Granted ws all) (state q k ws all))
+    (sym second) next))
 later_answers p unit byte steps go i (Nak n) q received count other kp ws vs xs ys o fs is may can fits few same run holds crosses later =
     let one = answers_as p i.word (Nak n) (sink_at (crossed unit) received count kp) is in
     let second = answers_as p i.word (Nak n) (sink_at None nothing_received other kp) is in
@@ -322,27 +401,40 @@ later_answers p unit byte steps go i (Nak n) q received count other kp ws vs xs 
     later (inl refl) in
     both_step p received.files (Answered i) steps _ _ can
     (subst (λ (k : Sink). Rerun p received.files steps (state q k ws all) (after p (Answered i) (other_state q other kp ws vs))) (sym one)
-    (subst (λ (k : Sink). Rerun p received.files steps (one_state unit q received count Quiet ws all) (state q k ws all)) (sym second) next))
-later_answers p unit byte steps go i (Ack f l) q received count other (OwesAck b flags) ws vs xs ys o fs is may can fits few same run holds crosses later =
+    (subst (λ (k : Sink). Rerun p received.files steps (one_state unit q received count Quiet ws all) (state q k ws all))
+    (sym second) next))
+later_answers p unit byte steps go i (Ack f l) q received count other (OwesAck b flags) ws vs xs ys o fs is may can fits few same run holds
+    crosses later =
     let one = answers_as p i.word (Ack f l) (sink_at (crossed unit) received count (OwesAck b flags)) is in
     let second = answers_as p i.word (Ack f l) (sink_at None nothing_received other (OwesAck b flags)) is in
     let all = vs ++ i.word ∷ [] in
     let number = ap (λ (n : UnitNumber). n.file) (whole_number q.number q.current q.phase count b flags xs ys fits) in
-    let apart : eqb unit.file b.file ≡ false = ne_eqb unit.file b.file (λ e. later_other p.codes unit q.number q.give_ups byte few later (e ∙ number)) in
+    let apart : eqb unit.file b.file ≡ false =
+    ne_eqb unit.file b.file (λ e. later_other p.codes unit q.number q.give_ups byte few later (e ∙ number)) in
     let k : Sink = in_phase Quiet (accepts p.codes b flags (sink_at None nothing_received other (OwesAck b flags))) in
     let both : answers_message p (Ack f l) (sink_at (crossed unit) received count (OwesAck b flags)) ≡ behind received.files k =
-    ap (λ (n : ℕ). in_phase Quiet (accepts p.codes b flags (sink_at (crossed unit) received n (OwesAck b flags)))) same ∙ accept_both p.codes unit b flags other received apart in
-    let next = earlier_rerun p received.files steps (state q k ws all) (subst (λ (z : Sink). IsRun p steps (state q z ws all)) (one ∙ both) run) in
+    ap (λ (n : ℕ). in_phase Quiet (accepts p.codes b flags (sink_at (crossed unit) received n (OwesAck b flags)))) same
+    ∙ accept_both p.codes unit b flags other received apart in
+    let next =
+    earlier_rerun p received.files steps (state q k ws all) (subst (λ (z : Sink). IsRun p steps (state q z ws all)) (one ∙ both) run) in
     both_step p received.files (Answered i) steps _ _ can
-    (subst (λ (z : Sink). Rerun p received.files steps (state q z ws all) (after p (Answered i) (other_state q other (OwesAck b flags) ws vs))) (sym (one ∙ both))
-    (subst (λ (z : Sink). Rerun p received.files steps (with_earlier received.files (state q k ws all)) (state q z ws all)) (sym second) next))
-later_answers p unit byte steps go i (Cts n) q received count other kp ws vs xs ys o fs is may can fits few same run holds crosses later = absurd may
-later_answers p unit byte steps go i (Ack f l) q received count other kp ws vs xs ys o fs is may can fits few same run holds crosses later = absurd may
-later_answers p unit byte steps go i x q received count other kp ws vs xs ys o fs is may can fits few same run holds crosses later = absurd (may_answer count kp x may)
+    (subst (λ (z : Sink).
+    Rerun p received.files steps (state q z ws all) (after p (Answered i) (other_state q other (OwesAck b flags) ws vs))) (sym (one ∙ both))
+    (subst (λ (z : Sink). Rerun p received.files steps (with_earlier received.files (state q k ws all)) (state q z ws all))
+    (sym second) next))
+later_answers p unit byte steps go i (Cts n) q received count other kp ws vs xs ys o fs is may can fits few same run holds crosses later =
+    absurd may
+later_answers p unit byte steps go i (Ack f l) q received count other kp ws vs xs ys o fs is may can fits few same run holds crosses later =
+    absurd may
+later_answers p unit byte steps go i x q received count other kp ws vs xs ys o fs is may can fits few same run holds crosses later =
+    absurd (may_answer count kp x may)
 
 later_rerun : (p : Contents) → IsRead p → (unit : UnitNumber) → unit.file ≤ 255 → (steps : List Step) → Later p unit steps
-later_rerun p good unit byte [] q received count other kp ws vs o fs run holds crosses later alike = record { again = []; run = tt; records = refl; delivers = sym (append-nil received.files) }
-later_rerun p good unit byte (a ∷ steps) q received count other kp ws vs o fs run holds crosses later alike = by (later_rerun p good unit byte steps) a run.0 run.1 (step_holds p good a s run.0 holds) (step_crosses p good a s o fs run.0 holds crosses)
+later_rerun p good unit byte [] q received count other kp ws vs o fs run holds crosses later alike =
+    record { again = []; run = tt; records = refl; delivers = sym (append-nil received.files) }
+later_rerun p good unit byte (a ∷ steps) q received count other kp ws vs o fs run holds crosses later alike =
+    by (later_rerun p good unit byte steps) a run.0 run.1 (step_holds p good a s run.0 holds)
+    (step_crosses p good a s o fs run.0 holds crosses)
   where
     s : State
     s = one_state unit q received count kp ws vs
@@ -356,23 +448,40 @@ later_rerun p good unit byte (a ∷ steps) q received count other kp ws vs o fs 
     few : q.give_ups ≤ 127
     few = crosses.few
 
-    by : Later p unit steps → (a : Step) → Can p a s → IsRun p steps (after p a s) → HoldsAt p (after p a s) → CrossesAt p (after p a s) (offers p a s o) (settles p a s o fs) → Rerun p files (a ∷ steps) s t
-    by go (Load u) can run holds_on crosses_on = both_step p files (Load u) steps s t can (go _ received count other kp ws vs _ _ run holds_on crosses_on later alike)
-    by go (Sent i) can run holds_on crosses_on = both_step p files (Sent i) steps s t can (go _ received count other kp _ vs _ _ run holds_on crosses_on later alike)
-    by go SentLost can run holds_on crosses_on = both_step p files SentLost steps s t can (go _ received count other kp ws vs _ _ run holds_on crosses_on later alike)
-    by go TimeOut can run holds_on crosses_on = both_step p files TimeOut steps s t can (go _ received count other kp ws vs _ _ run holds_on crosses_on later alike)
+    by : Later p unit steps → (a : Step) → Can p a s → IsRun p steps (after p a s) → HoldsAt p (after p a s)
+        → CrossesAt p (after p a s) (offers p a s o) (settles p a s o fs) → Rerun p files (a ∷ steps) s t
+    by go (Load u) can run holds_on crosses_on =
+        both_step p files (Load u) steps s t can (go _ received count other kp ws vs _ _ run holds_on crosses_on later alike)
+    by go (Sent i) can run holds_on crosses_on =
+        both_step p files (Sent i) steps s t can (go _ received count other kp _ vs _ _ run holds_on crosses_on later alike)
+    by go SentLost can run holds_on crosses_on =
+        both_step p files SentLost steps s t can (go _ received count other kp ws vs _ _ run holds_on crosses_on later alike)
+    by go TimeOut can run holds_on crosses_on =
+        both_step p files TimeOut steps s t can (go _ received count other kp ws vs _ _ run holds_on crosses_on later alike)
     by go TakeAnswer can run holds_on crosses_on =
-        let still = hear_later p unit q count kp vs holds.xs holds.ys can holds.source_words holds.fits (λ ack. not_accepted p unit q.number q.give_ups q.current received o fs byte few later (crosses.accepted ack)) later in
+        let still =
+        hear_later p unit q count kp vs holds.xs holds.ys can holds.source_words holds.fits
+        (λ ack. not_accepted p unit q.number q.give_ups q.current received o fs byte few later (crosses.accepted ack)) later in
         both_step p files TakeAnswer steps s t can (go _ received count other kp ws _ _ _ run holds_on crosses_on still alike)
-    by go LoseAnswer can run holds_on crosses_on = both_step p files LoseAnswer steps s t can (go _ received count other kp ws _ _ _ run holds_on crosses_on later alike)
-    by go SinkTakes can run holds_on crosses_on = later_takes p unit byte steps go q received count other kp ws vs holds.xs holds.ys _ _ can.0 can.1 holds.sink_words holds.fits few run holds_on crosses_on later alike
-    by go Silent can run holds_on crosses_on = both_step p files Silent steps s t can (go _ received count other Quiet ws vs _ _ run holds_on crosses_on later (inl refl))
+    by go LoseAnswer can run holds_on crosses_on =
+        both_step p files LoseAnswer steps s t can (go _ received count other kp ws _ _ _ run holds_on crosses_on later alike)
+    by go SinkTakes can run holds_on crosses_on =
+        later_takes p unit byte steps go q received count other kp ws vs holds.xs holds.ys _ _ can.0 can.1 holds.sink_words holds.fits few
+        run holds_on crosses_on later alike
+    by go Silent can run holds_on crosses_on =
+        both_step p files Silent steps s t can (go _ received count other Quiet ws vs _ _ run holds_on crosses_on later (inl refl))
     by go (Answered i) can run holds_on crosses_on =
         let r = owed_form p s i can in
         let same = asked_count kp count other alike (owes_not_quiet kp (may_owes count kp r.said r.owed)) in
-        later_answers p unit byte steps go i r.said q received count other kp ws vs holds.xs holds.ys _ _ r.is r.owed (can.0, subst (λ (n : ℕ). MayAnswerForm n kp (form_of p.codes bus.B i.word)) same can.1) holds.fits few same run holds_on crosses_on later
-    by go (FreeSeen i) can run holds_on crosses_on = both_step p files (FreeSeen i) steps s t can (go q received count other kp ws vs _ _ run holds_on crosses_on later alike)
-    by go GiveUp can run holds_on crosses_on = both_step p files GiveUp steps s t can (go _ received count other kp ws vs _ _ run holds_on crosses_on (next_later p.codes unit q.number q.give_ups later) alike)
+        later_answers p unit byte steps go i r.said q received count other kp ws vs holds.xs holds.ys _ _ r.is r.owed (
+          can.0,
+          subst (λ (n : ℕ). MayAnswerForm n kp (form_of p.codes bus.B i.word)) same can.1,
+        ) holds.fits few same run holds_on crosses_on later
+    by go (FreeSeen i) can run holds_on crosses_on =
+        both_step p files (FreeSeen i) steps s t can (go q received count other kp ws vs _ _ run holds_on crosses_on later alike)
+    by go GiveUp can run holds_on crosses_on =
+        both_step p files GiveUp steps s t can
+        (go _ received count other kp ws vs _ _ run holds_on crosses_on (next_later p.codes unit q.number q.give_ups later) alike)
 
 -- ---- the source has not heard the acknowledgement, and sends the last unit again under another number
 
@@ -390,8 +499,11 @@ IsSot (Sot gfi file ldu) = Unit {0}
 IsSot x = ⊥
 
 -- behind another word
-other_behind : (p : Contents) (unit : UnitNumber) (i : Seen) (b : Bus) (x : Message) (items : List Seen) → i.bus ≡ b → message_of p b i.word ≡ Some x → (IsSot x → ⊥) → OtherStart p unit (i ∷ items) → OtherStart p unit items
-other_behind p unit i b x items on says never h = by x never (subst (λ (m : Option Message). OtherBy unit m (OtherStart p unit items)) (ap (λ (c : Bus). message_of p c i.word) on ∙ says) h)
+other_behind : (p : Contents) (unit : UnitNumber) (i : Seen) (b : Bus) (x : Message) (items : List Seen)
+    → i.bus ≡ b → message_of p b i.word ≡ Some x → (IsSot x → ⊥) → OtherStart p unit (i ∷ items) → OtherStart p unit items
+other_behind p unit i b x items on says never h =
+    by x never
+    (subst (λ (m : Option Message). OtherBy unit m (OtherStart p unit items)) (ap (λ (c : Bus). message_of p c i.word) on ∙ says) h)
   where
     by : (x : Message) → (IsSot x → ⊥) → OtherBy unit (Some x) (OtherStart p unit items) → OtherStart p unit items
     by (Rts n) never h = h
@@ -402,19 +514,24 @@ other_behind p unit i b x items on says never h = by x never (subst (λ (m : Opt
     by (Part w) never h = h
     by (Eot f c) never h = h
 
-other_free : (p : Contents) → IsRead p → (unit : UnitNumber) (i : Seen) (items : List Seen) → is_free p.codes i.bus i.word ≡ true → OtherStart p unit (i ∷ items) → OtherStart p unit items
-other_free p good unit i items free h = subst (λ (m : Option Message). OtherBy unit m (OtherStart p unit items)) (ap (message_in i.word) (good.free i.bus i.word free)) h
+other_free : (p : Contents) → IsRead p → (unit : UnitNumber) (i : Seen) (items : List Seen) → is_free p.codes i.bus i.word ≡ true
+    → OtherStart p unit (i ∷ items) → OtherStart p unit items
+other_free p good unit i items free h =
+    subst (λ (m : Option Message). OtherBy unit m (OtherStart p unit items)) (ap (message_in i.word) (good.free i.bus i.word free)) h
 
 -- the source would send a start word of this number next
-starts_not : (p : Contents) (unit : UnitNumber) (i : Seen) (g f l : ℕ) (items : List Seen) → i.bus ≡ bus.A → message_of p bus.A i.word ≡ Some (Sot g f l) → record { file = f; ldu = l } ≡ unit → OtherStart p unit (i ∷ items) → ⊥
-starts_not p unit i g f l items on says same h = subst (λ (m : Option Message). OtherBy unit m (OtherStart p unit items)) (ap (λ (c : Bus). message_of p c i.word) on ∙ says) h same
+starts_not : (p : Contents) (unit : UnitNumber) (i : Seen) (g f l : ℕ) (items : List Seen)
+    → i.bus ≡ bus.A → message_of p bus.A i.word ≡ Some (Sot g f l) → record { file = f; ldu = l } ≡ unit → OtherStart p unit (i ∷ items) → ⊥
+starts_not p unit i g f l items on says same h =
+    subst (λ (m : Option Message). OtherBy unit m (OtherStart p unit items)) (ap (λ (c : Bus). message_of p c i.word) on ∙ says) h same
 
 -- no start words are on their way
 abbrev Startless : Contents → List ℕ → Type 0
 Startless p [] = Unit {0}
 Startless p (w ∷ ws) = ((x : Message) → message_of p bus.A w ≡ Some x → IsSot x → ⊥) × Startless p ws
 
-startless_push : (p : Contents) (ws : List ℕ) (w : ℕ) → Startless p ws → ((x : Message) → message_of p bus.A w ≡ Some x → IsSot x → ⊥) → Startless p (ws ++ w ∷ [])
+startless_push : (p : Contents) (ws : List ℕ) (w : ℕ)
+    → Startless p ws → ((x : Message) → message_of p bus.A w ≡ Some x → IsSot x → ⊥) → Startless p (ws ++ w ∷ [])
 startless_push p [] w h never = (never, tt)
 startless_push p (x ∷ ws) w h never = (h.0, startless_push p ws w h.1 never)
 
@@ -481,14 +598,18 @@ abbrev repeating : ℕ → UnitNumber → LduValue → SourceState → Source
 repeating g number u sp = source_at g number (Some u) sp
 
 -- what is said next is the same under each number, but for the start word
-same_next : (p : Contents) (u : LduValue) (number other : UnitNumber) (sp : SourceState) (w : ℕ) (x : Message) → next_message number (Some u) sp ≡ Some x → (IsSot x → ⊥) → next_word p.codes number (Some u) sp ≡ Some w → next_word p.codes other (Some u) sp ≡ Some w
+same_next : (p : Contents) (u : LduValue) (number other : UnitNumber) (sp : SourceState) (w : ℕ) (x : Message)
+    → next_message number (Some u) sp ≡ Some x → (IsSot x → ⊥) → next_word p.codes number (Some u) sp ≡ Some w
+    → next_word p.codes other (Some u) sp ≡ Some w
 same_next p u number other Idle w x says never e = e
-same_next p u number other (Sending zero) w x says never e = absurd (never (subst IsSot (let same : Sot u.gfi number.file number.ldu ≡ x = cc says in same) tt))
+same_next p u number other (Sending zero) w x says never e =
+    absurd (never (subst IsSot (let same : Sot u.gfi number.file number.ldu ≡ x = cc says in same) tt))
 same_next p u number other (Sending (suc k)) w x says never e = e
 same_next p u number other Awaiting w x says never e = absurd (cc e)
 same_next p u number other Waiting w x says never e = absurd (cc e)
 
-some_next : (p : Contents) (u : LduValue) (number other : UnitNumber) (sp : SourceState) → IsSome (next_word p.codes number (Some u) sp) → IsSome (next_word p.codes other (Some u) sp)
+some_next : (p : Contents) (u : LduValue) (number other : UnitNumber) (sp : SourceState)
+    → IsSome (next_word p.codes number (Some u) sp) → IsSome (next_word p.codes other (Some u) sp)
 some_next p u number other Idle h = refl
 some_next p u number other (Sending zero) h = refl
 some_next p u number other (Sending (suc k)) h = h
@@ -501,11 +622,14 @@ record HearsAlike (c : Codes) (o : Option Form) (g : ℕ) (number other : UnitNu
   one : with_answer_form c o (repeating g number u sp) ≡ repeating g number u phase
   second : with_answer_form c o (repeating g other u sp) ≡ repeating g other u phase
 
-clear_alike : (c : Codes) (n g : ℕ) (number other : UnitNumber) (u : LduValue) (t : Bool) → (phase : SourceState) × (cond t (repeating g number u (Sending 0)) (repeating g number u Awaiting) ≡ repeating g number u phase) × (cond t (repeating g other u (Sending 0)) (repeating g other u Awaiting) ≡ repeating g other u phase)
+clear_alike : (c : Codes) (n g : ℕ) (number other : UnitNumber) (u : LduValue) (t : Bool)
+    → (phase : SourceState) × (cond t (repeating g number u (Sending 0)) (repeating g number u Awaiting) ≡ repeating g number u phase)
+    × (cond t (repeating g other u (Sending 0)) (repeating g other u Awaiting) ≡ repeating g other u phase)
 clear_alike c n g number other u true = (Sending 0, refl, refl)
 clear_alike c n g number other u false = (Awaiting, refl, refl)
 
-hears_alike : (c : Codes) (w : ℕ) (o : Option Form) (g : ℕ) (number other : UnitNumber) (u : LduValue) (sp : SourceState) → (IsAck (message_in w o) → ⊥) → HearsAlike c o g number other u sp
+hears_alike : (c : Codes) (w : ℕ) (o : Option Form) (g : ℕ) (number other : UnitNumber) (u : LduValue) (sp : SourceState)
+    → (IsAck (message_in w o) → ⊥) → HearsAlike c o g number other u sp
 hears_alike c w None g number other u sp never = record { phase = sp; one = refl; second = refl }
 hears_alike c w (Some (form.Cts n)) g number other u Awaiting never =
     let r = clear_alike c n g number other u (eqb n (count_of u)) in
@@ -523,35 +647,57 @@ again_state p unit g u sp count kp ws vs = other_state (repeating g (first_numbe
 
 abbrev Repeats : Contents → UnitNumber → LduValue → List Step → Type 0
 Repeats p unit u steps =
-    (g : ℕ) (sp : SourceState) (received : Received) (count other : ℕ) (kp : SinkPhase) (ws vs : List ℕ) (o : Received) (fs : List FileBytes)
+    (g : ℕ) (sp : SourceState) (received : Received) (count other : ℕ) (kp : SinkPhase) (ws vs : List ℕ) (o : Received)
+    (fs : List FileBytes)
     → IsRun p steps (one_state unit (repeating g unit u sp) received count kp ws vs)
     → HoldsAt p (one_state unit (repeating g unit u sp) received count kp ws vs)
     → CrossesAt p (one_state unit (repeating g unit u sp) received count kp ws vs) o fs
     → Blockless kp → Startless p ws → Ackless p vs → AskedAlike kp count other → OtherStart p unit (trace steps)
-    → Rerun p received.files steps (one_state unit (repeating g unit u sp) received count kp ws vs) (again_state p unit g u sp other kp ws vs)
+    → Rerun p received.files steps (one_state unit (repeating g unit u sp) received count kp ws vs)
+    (again_state p unit g u sp other kp ws vs)
 
-repeat_takes : (p : Contents) (unit : UnitNumber) (u : LduValue) (steps : List Step) → Repeats p unit u steps → (g : ℕ) (sp : SourceState) (received : Received) (count other : ℕ) (kp : SinkPhase) (ws vs : List ℕ) (xs : List Message) (o : Received) (fs : List FileBytes) → IsNonEmpty ws → Listens kp → AllSay p bus.A ws xs → IsRun p steps (after p SinkTakes (one_state unit (repeating g unit u sp) received count kp ws vs)) → HoldsAt p (after p SinkTakes (one_state unit (repeating g unit u sp) received count kp ws vs)) → CrossesAt p (after p SinkTakes (one_state unit (repeating g unit u sp) received count kp ws vs)) o fs → Blockless kp → Startless p ws → Ackless p vs → AskedAlike kp count other → OtherStart p unit (trace steps) → Rerun p received.files (SinkTakes ∷ steps) (one_state unit (repeating g unit u sp) received count kp ws vs) (again_state p unit g u sp other kp ws vs)
-repeat_takes p unit u steps go g sp received count other kp [] vs xs o fs some listens says run holds crosses blockless startless ackless alike others = absurd some
-repeat_takes p unit u steps go g sp received count other kp (w ∷ ws) vs [] o fs some listens says run holds crosses blockless startless ackless alike others = absurd says
-repeat_takes p unit u steps go g sp received count other kp (w ∷ ws) vs (x ∷ xs) o fs some listens says run holds crosses blockless startless ackless alike others =
+repeat_takes : (p : Contents) (unit : UnitNumber) (u : LduValue) (steps : List Step)
+    → Repeats p unit u steps → (g : ℕ) (sp : SourceState) (received : Received) (count other : ℕ) (kp : SinkPhase) (ws vs : List ℕ)
+    (xs : List Message) (o : Received) (fs : List FileBytes) → IsNonEmpty ws → Listens kp → AllSay p bus.A ws xs
+    → IsRun p steps (after p SinkTakes (one_state unit (repeating g unit u sp) received count kp ws vs))
+    → HoldsAt p (after p SinkTakes (one_state unit (repeating g unit u sp) received count kp ws vs))
+    → CrossesAt p (after p SinkTakes (one_state unit (repeating g unit u sp) received count kp ws vs)) o fs → Blockless kp → Startless p ws
+    → Ackless p vs → AskedAlike kp count other → OtherStart p unit (trace steps)
+    → Rerun p received.files (SinkTakes ∷ steps) (one_state unit (repeating g unit u sp) received count kp ws vs)
+    (again_state p unit g u sp other kp ws vs)
+repeat_takes p unit u steps go g sp received count other kp [] vs xs o fs some listens says run holds crosses blockless startless ackless
+    alike others =
+    absurd some
+repeat_takes p unit u steps go g sp received count other kp (w ∷ ws) vs [] o fs some listens says run holds crosses blockless startless
+    ackless alike others =
+    absurd says
+repeat_takes p unit u steps go g sp received count other kp (w ∷ ws) vs (x ∷ xs) o fs some listens says run holds crosses blockless
+    startless ackless alike others =
     let q = repeating g unit u sp in
     let r = repeating g (first_number p.codes unit.file) u sp in
-    let t = take_both p x (crossed unit) None received nothing_received count other kp alike (blockless_ends p.codes x (crossed unit) None kp blockless) in
+    let t =
+    take_both p x (crossed unit) None received nothing_received count other kp alike
+    (blockless_ends p.codes x (crossed unit) None kp blockless) in
     let one = takes_as p w x (sink_at (crossed unit) received count kp) says.0 ∙ t.one in
     let second = takes_as p w x (sink_at None nothing_received other kp) says.0 ∙ t.second in
-    let still = subst Blockless (ap (λ (k : Sink). k.phase) t.one) (blockless_takes p x (sink_at (crossed unit) received count kp) (startless.0 x says.0) blockless) in
+    let still =
+    subst Blockless (ap (λ (k : Sink). k.phase) t.one)
+    (blockless_takes p x (sink_at (crossed unit) received count kp) (startless.0 x says.0) blockless) in
     let next =
     go g sp received t.now t.other_now t.phase ws vs o fs
     (subst (λ (k : Sink). IsRun p steps (state q k ws vs)) one run)
     (subst (λ (k : Sink). HoldsAt p (state q k ws vs)) one holds)
     (subst (λ (k : Sink). CrossesAt p (state q k ws vs) o fs) one crosses)
     still startless.1 ackless t.alike others in
-    both_step p received.files SinkTakes steps (one_state unit q received count kp (w ∷ ws) vs) (other_state r other kp (w ∷ ws) vs) (tt, listens)
+    both_step p received.files SinkTakes steps (one_state unit q received count kp (w ∷ ws) vs) (other_state r other kp (w ∷ ws) vs)
+    (tt, listens)
     (subst (λ (k : Sink). Rerun p received.files steps (state q k ws vs) (after p SinkTakes (other_state r other kp (w ∷ ws) vs))) (sym one)
-    (subst (λ (k : Sink). Rerun p received.files steps (one_state unit q received t.now t.phase ws vs) (state r k ws vs)) (sym second) next))
+    (subst (λ (k : Sink). Rerun p received.files steps (one_state unit q received t.now t.phase ws vs) (state r k ws vs))
+    (sym second) next))
 
 -- the sink answers: it owes no acknowledgement
-record Said (p : Contents) (w : ℕ) (last before : Option Number) (received nothing : Received) (count other : ℕ) (kp : SinkPhase) : Type 0 where
+record Said (p : Contents) (w : ℕ) (last before : Option Number) (received nothing : Received) (count other : ℕ)
+    (kp : SinkPhase) : Type 0 where
   phase : SinkPhase
   blockless : Blockless phase
   no_ack : IsAck (message_of p bus.B w) → ⊥
@@ -559,7 +705,9 @@ record Said (p : Contents) (w : ℕ) (last before : Option Number) (received not
   one : answers_word p.codes w (sink_at last received count kp) ≡ sink_at last received count phase
   second : answers_word p.codes w (sink_at before nothing other kp) ≡ sink_at before nothing other phase
 
-say_both : (p : Contents) (w : ℕ) (x : Message) (last before : Option Number) (received nothing : Received) (count other : ℕ) (kp : SinkPhase) → message_of p bus.B w ≡ Some x → MaySay count kp x → Blockless kp → Said p w last before received nothing count other kp
+say_both : (p : Contents) (w : ℕ) (x : Message) (last before : Option Number) (received nothing : Received) (count other : ℕ)
+    (kp : SinkPhase)
+    → message_of p bus.B w ≡ Some x → MaySay count kp x → Blockless kp → Said p w last before received nothing count other kp
 say_both p w (Cts n) last before received nothing count other kp is may h = record {
   phase = Granted;
   blockless = tt;
@@ -580,8 +728,18 @@ say_both p w (Ack f l) last before received nothing count other (OwesAck b flags
 say_both p w (Ack f l) last before received nothing count other kp is may h = absurd may
 say_both p w x last before received nothing count other kp is may h = absurd (may_answer count kp x may)
 
-repeat_answers : (p : Contents) (unit : UnitNumber) (u : LduValue) (steps : List Step) → Repeats p unit u steps → (i : Seen) (x : Message) (g : ℕ) (sp : SourceState) (received : Received) (count other : ℕ) (kp : SinkPhase) (ws vs : List ℕ) (o : Received) (fs : List FileBytes) → message_of p bus.B i.word ≡ Some x → MaySay count kp x → Can p (Answered i) (again_state p unit g u sp other kp ws vs) → count ≡ other → IsRun p steps (after p (Answered i) (one_state unit (repeating g unit u sp) received count kp ws vs)) → HoldsAt p (after p (Answered i) (one_state unit (repeating g unit u sp) received count kp ws vs)) → CrossesAt p (after p (Answered i) (one_state unit (repeating g unit u sp) received count kp ws vs)) o fs → Blockless kp → Startless p ws → Ackless p vs → OtherStart p unit (i ∷ trace steps) → Rerun p received.files (Answered i ∷ steps) (one_state unit (repeating g unit u sp) received count kp ws vs) (again_state p unit g u sp other kp ws vs)
-repeat_answers p unit u steps go i x g sp received count other kp ws vs o fs is may can same run holds crosses blockless startless ackless others =
+repeat_answers : (p : Contents) (unit : UnitNumber) (u : LduValue) (steps : List Step)
+    → Repeats p unit u steps → (i : Seen) (x : Message) (g : ℕ) (sp : SourceState) (received : Received) (count other : ℕ) (kp : SinkPhase)
+    (ws vs : List ℕ) (o : Received) (fs : List FileBytes)
+    → message_of p bus.B i.word ≡ Some x → MaySay count kp x → Can p (Answered i) (again_state p unit g u sp other kp ws vs) → count ≡ other
+    → IsRun p steps (after p (Answered i) (one_state unit (repeating g unit u sp) received count kp ws vs))
+    → HoldsAt p (after p (Answered i) (one_state unit (repeating g unit u sp) received count kp ws vs))
+    → CrossesAt p (after p (Answered i) (one_state unit (repeating g unit u sp) received count kp ws vs)) o fs → Blockless kp
+    → Startless p ws → Ackless p vs → OtherStart p unit (i ∷ trace steps)
+    → Rerun p received.files (Answered i ∷ steps) (one_state unit (repeating g unit u sp) received count kp ws vs)
+    (again_state p unit g u sp other kp ws vs)
+repeat_answers p unit u steps go i x g sp received count other kp ws vs o fs is may can same run holds crosses blockless startless ackless
+    others =
     let q = repeating g unit u sp in
     let r = repeating g (first_number p.codes unit.file) u sp in
     let all = vs ++ i.word ∷ [] in
@@ -591,15 +749,27 @@ repeat_answers p unit u steps go i x g sp received count other kp ws vs o fs is 
     (subst (λ (k : Sink). IsRun p steps (state q k ws all)) t.one run)
     (subst (λ (k : Sink). HoldsAt p (state q k ws all)) t.one holds)
     (subst (λ (k : Sink). CrossesAt p (state q k ws all) o fs) t.one crosses)
-    t.blockless startless (ackless_push p vs i.word ackless t.no_ack) (inr same) (other_behind p unit i bus.B x (trace steps) can.0 is (t.no_start x is) others) in
+    t.blockless startless (ackless_push p vs i.word ackless t.no_ack) (inr same)
+    (other_behind p unit i bus.B x (trace steps) can.0 is (t.no_start x is) others) in
     both_step p received.files (Answered i) steps _ _ can
-    (subst (λ (k : Sink). Rerun p received.files steps (state q k ws all) (after p (Answered i) (again_state p unit g u sp other kp ws vs))) (sym t.one)
-    (subst (λ (k : Sink). Rerun p received.files steps (one_state unit q received count t.phase ws all) (state r k ws all)) (sym t.second) next))
+    (subst (λ (k : Sink). Rerun p received.files steps (state q k ws all) (after p (Answered i) (again_state p unit g u sp other kp ws vs)))
+    (sym t.one)
+    (subst (λ (k : Sink). Rerun p received.files steps (one_state unit q received count t.phase ws all) (state r k ws all))
+    (sym t.second) next))
 
 -- the source hears an answer
-repeat_hears : (p : Contents) (unit : UnitNumber) (u : LduValue) (steps : List Step) → Repeats p unit u steps → (g : ℕ) (sp : SourceState) (received : Received) (count other : ℕ) (kp : SinkPhase) (ws vs : List ℕ) (o : Received) (fs : List FileBytes) → IsNonEmpty vs → IsRun p steps (after p TakeAnswer (one_state unit (repeating g unit u sp) received count kp ws vs)) → HoldsAt p (after p TakeAnswer (one_state unit (repeating g unit u sp) received count kp ws vs)) → CrossesAt p (after p TakeAnswer (one_state unit (repeating g unit u sp) received count kp ws vs)) o fs → Blockless kp → Startless p ws → Ackless p vs → AskedAlike kp count other → OtherStart p unit (trace steps) → Rerun p received.files (TakeAnswer ∷ steps) (one_state unit (repeating g unit u sp) received count kp ws vs) (again_state p unit g u sp other kp ws vs)
-repeat_hears p unit u steps go g sp received count other kp ws [] o fs some run holds crosses blockless startless ackless alike others = absurd some
-repeat_hears p unit u steps go g sp received count other kp ws (v ∷ vs) o fs some run holds crosses blockless startless ackless alike others =
+repeat_hears : (p : Contents) (unit : UnitNumber) (u : LduValue) (steps : List Step) → Repeats p unit u steps → (g : ℕ) (sp : SourceState)
+    (received : Received) (count other : ℕ) (kp : SinkPhase) (ws vs : List ℕ) (o : Received) (fs : List FileBytes)
+    → IsNonEmpty vs → IsRun p steps (after p TakeAnswer (one_state unit (repeating g unit u sp) received count kp ws vs))
+    → HoldsAt p (after p TakeAnswer (one_state unit (repeating g unit u sp) received count kp ws vs))
+    → CrossesAt p (after p TakeAnswer (one_state unit (repeating g unit u sp) received count kp ws vs)) o fs → Blockless kp → Startless p ws
+    → Ackless p vs → AskedAlike kp count other → OtherStart p unit (trace steps)
+    → Rerun p received.files (TakeAnswer ∷ steps) (one_state unit (repeating g unit u sp) received count kp ws vs)
+    (again_state p unit g u sp other kp ws vs)
+repeat_hears p unit u steps go g sp received count other kp ws [] o fs some run holds crosses blockless startless ackless alike others =
+    absurd some
+repeat_hears p unit u steps go g sp received count other kp ws (v ∷ vs) o fs some run holds crosses blockless startless ackless alike
+    others =
     let t = hears_alike p.codes v (form_of p.codes bus.B v) g unit (first_number p.codes unit.file) u sp ackless.0 in
     let k = sink_at (crossed unit) received count kp in
     let next =
@@ -609,25 +779,47 @@ repeat_hears p unit u steps go g sp received count other kp ws (v ∷ vs) o fs s
     (subst (λ (q : Source). CrossesAt p (state q k ws vs) o fs) t.one crosses)
     blockless startless ackless.1 alike others in
     both_step p received.files TakeAnswer steps _ _ tt
-    (subst (λ (q : Source). Rerun p received.files steps (state q k ws vs) (after p TakeAnswer (again_state p unit g u sp other kp ws (v ∷ vs)))) (sym t.one)
-    (subst (λ (q : Source). Rerun p received.files steps (one_state unit (repeating g unit u t.phase) received count kp ws vs) (other_state q other kp ws vs)) (sym t.second) next))
+    (subst (λ (q : Source).
+    Rerun p received.files steps (state q k ws vs) (after p TakeAnswer (again_state p unit g u sp other kp ws (v ∷ vs)))) (sym t.one)
+    (subst (λ (q : Source). Rerun p received.files steps (one_state unit (repeating g unit u t.phase) received count kp ws vs)
+    (other_state q other kp ws vs)) (sym t.second) next))
 
 -- the source sends a word
-repeat_sends : (p : Contents) → IsRead p → (unit : UnitNumber) (u : LduValue) (steps : List Step) → Repeats p unit u steps → (i : Seen) (x : Message) (g : ℕ) (sp : SourceState) (received : Received) (count other : ℕ) (kp : SinkPhase) (ws vs : List ℕ) (o : Received) (fs : List FileBytes) → i.bus ≡ bus.A → next_word p.codes unit (Some u) sp ≡ Some i.word → next_message unit (Some u) sp ≡ Some x → message_of p bus.A i.word ≡ Some x → (IsSot x → ⊥) → IsRun p steps (after p (Sent i) (one_state unit (repeating g unit u sp) received count kp ws vs)) → HoldsAt p (after p (Sent i) (one_state unit (repeating g unit u sp) received count kp ws vs)) → CrossesAt p (after p (Sent i) (one_state unit (repeating g unit u sp) received count kp ws vs)) o fs → Blockless kp → Startless p ws → Ackless p vs → AskedAlike kp count other → OtherStart p unit (i ∷ trace steps) → Rerun p received.files (Sent i ∷ steps) (one_state unit (repeating g unit u sp) received count kp ws vs) (again_state p unit g u sp other kp ws vs)
-repeat_sends p good unit u steps go i x g sp received count other kp ws vs o fs on next says is never run holds crosses blockless startless ackless alike others =
+repeat_sends : (p : Contents) → IsRead p → (unit : UnitNumber) (u : LduValue) (steps : List Step) → Repeats p unit u steps
+    → (i : Seen) (x : Message) (g : ℕ) (sp : SourceState) (received : Received) (count other : ℕ) (kp : SinkPhase) (ws vs : List ℕ)
+    (o : Received) (fs : List FileBytes) → i.bus ≡ bus.A → next_word p.codes unit (Some u) sp ≡ Some i.word
+    → next_message unit (Some u) sp ≡ Some x → message_of p bus.A i.word ≡ Some x → (IsSot x → ⊥)
+    → IsRun p steps (after p (Sent i) (one_state unit (repeating g unit u sp) received count kp ws vs))
+    → HoldsAt p (after p (Sent i) (one_state unit (repeating g unit u sp) received count kp ws vs))
+    → CrossesAt p (after p (Sent i) (one_state unit (repeating g unit u sp) received count kp ws vs)) o fs → Blockless kp → Startless p ws
+    → Ackless p vs → AskedAlike kp count other → OtherStart p unit (i ∷ trace steps)
+    → Rerun p received.files (Sent i ∷ steps) (one_state unit (repeating g unit u sp) received count kp ws vs)
+    (again_state p unit g u sp other kp ws vs)
+repeat_sends p good unit u steps go i x g sp received count other kp ws vs o fs on next says is never run holds crosses blockless startless
+    ackless alike others =
     both_step p received.files (Sent i) steps _ _ (on, same_next p u unit (first_number p.codes unit.file) sp i.word x says never next)
-    (go g (after_word (Some u) sp) received count other kp (ws ++ i.word ∷ []) vs o fs run holds crosses blockless (startless_push p ws i.word startless (λ y e s. never (subst IsSot (let same : y ≡ x = cc (e, is) in same) s))) ackless alike (other_behind p unit i bus.A x (trace steps) on is never others))
+    (go g (after_word (Some u) sp) received count other kp (ws ++ i.word ∷ []) vs o fs run holds crosses blockless
+    (startless_push p ws i.word startless (λ y e s. never (subst IsSot (let same : y ≡ x = cc (e, is) in same) s))) ackless alike
+    (other_behind p unit i bus.A x (trace steps) on is never others))
 
-no_start_again : (p : Contents) (unit : UnitNumber) (u : LduValue) (sp : SourceState) (i : Seen) (x : Message) (items : List Seen) → i.bus ≡ bus.A → next_message unit (Some u) sp ≡ Some x → message_of p bus.A i.word ≡ Some x → OtherStart p unit (i ∷ items) → IsSot x → ⊥
-no_start_again p unit u (Sending k) i (Sot g f l) items on says is others s = starts_not p unit i g f l items on is (start_has_number unit u k g f l says) others
+no_start_again : (p : Contents) (unit : UnitNumber) (u : LduValue) (sp : SourceState) (i : Seen) (x : Message) (items : List Seen)
+    → i.bus ≡ bus.A → next_message unit (Some u) sp ≡ Some x → message_of p bus.A i.word ≡ Some x → OtherStart p unit (i ∷ items) → IsSot x
+    → ⊥
+no_start_again p unit u (Sending k) i (Sot g f l) items on says is others s =
+    starts_not p unit i g f l items on is (start_has_number unit u k g f l says) others
 no_start_again p unit u Idle i (Sot g f l) items on says is others s = cc says
 no_start_again p unit u Awaiting i (Sot g f l) items on says is others s = cc says
 no_start_again p unit u Waiting i (Sot g f l) items on says is others s = cc says
 no_start_again p unit u sp i x items on says is others s = absurd s
 
-repeat_rerun : (p : Contents) → IsRead p → (unit : UnitNumber) → unit.file ≤ 255 → (u : LduValue) (steps : List Step) → Repeats p unit u steps
-repeat_rerun p good unit byte u [] g sp received count other kp ws vs o fs run holds crosses blockless startless ackless alike others = record { again = []; run = tt; records = refl; delivers = sym (append-nil received.files) }
-repeat_rerun p good unit byte u (a ∷ steps) g sp received count other kp ws vs o fs run holds crosses blockless startless ackless alike others = by (repeat_rerun p good unit byte u steps) a run.0 run.1 (step_holds p good a s run.0 holds) (step_crosses p good a s o fs run.0 holds crosses) others
+repeat_rerun : (p : Contents)
+    → IsRead p → (unit : UnitNumber) → unit.file ≤ 255 → (u : LduValue) (steps : List Step) → Repeats p unit u steps
+repeat_rerun p good unit byte u [] g sp received count other kp ws vs o fs run holds crosses blockless startless ackless alike others =
+    record { again = []; run = tt; records = refl; delivers = sym (append-nil received.files) }
+repeat_rerun p good unit byte u (a ∷ steps) g sp received count other kp ws vs o fs run holds crosses blockless startless ackless alike
+    others =
+    by (repeat_rerun p good unit byte u steps) a run.0 run.1 (step_holds p good a s run.0 holds)
+    (step_crosses p good a s o fs run.0 holds crosses) others
   where
     s : State
     s = one_state unit (repeating g unit u sp) received count kp ws vs
@@ -638,43 +830,77 @@ repeat_rerun p good unit byte u (a ∷ steps) g sp received count other kp ws vs
     files : List FileBytes
     files = received.files
 
-    by : Repeats p unit u steps → (a : Step) → Can p a s → IsRun p steps (after p a s) → HoldsAt p (after p a s) → CrossesAt p (after p a s) (offers p a s o) (settles p a s o fs) → OtherStart p unit (trace (a ∷ steps)) → Rerun p files (a ∷ steps) s t
+    by : Repeats p unit u steps → (a : Step) → Can p a s → IsRun p steps (after p a s) → HoldsAt p (after p a s)
+        → CrossesAt p (after p a s) (offers p a s o) (settles p a s o fs) → OtherStart p unit (trace (a ∷ steps))
+        → Rerun p files (a ∷ steps) s t
     by go (Load v) can run holds_on crosses_on others = absurd (cc can.1)
     by go (Sent i) can run holds_on crosses_on others =
         let says = sends p good s.source i.word holds.file holds.current can.1 in
-        repeat_sends p good unit u steps go i says.said g sp received count other kp ws vs _ _ can.0 can.1 says.next says.says (no_start_again p unit u sp i says.said (trace steps) can.0 says.next says.says others) run holds_on crosses_on blockless startless ackless alike others
-    by go SentLost can run holds_on crosses_on others = both_step p files SentLost steps s t (some_next p u unit (first_number p.codes unit.file) sp can) (go g _ received count other kp ws vs _ _ run holds_on crosses_on blockless startless ackless alike others)
-    by go TimeOut can run holds_on crosses_on others = both_step p files TimeOut steps s t can (go g Idle received count other kp ws vs _ _ run holds_on crosses_on blockless startless ackless alike others)
-    by go TakeAnswer can run holds_on crosses_on others = repeat_hears p unit u steps go g sp received count other kp ws vs _ _ can run holds_on crosses_on blockless startless ackless alike others
-    by go LoseAnswer can run holds_on crosses_on others = both_step p files LoseAnswer steps s t can (go g sp received count other kp ws _ _ _ run holds_on crosses_on blockless startless (ackless_rest p vs ackless) alike others)
-    by go SinkTakes can run holds_on crosses_on others = repeat_takes p unit u steps go g sp received count other kp ws vs holds.xs _ _ can.0 can.1 holds.sink_words run holds_on crosses_on blockless startless ackless alike others
-    by go Silent can run holds_on crosses_on others = both_step p files Silent steps s t can (go g sp received count other Quiet ws vs _ _ run holds_on crosses_on tt startless ackless (inl refl) others)
+        repeat_sends p good unit u steps go i says.said g sp received count other kp ws vs _ _ can.0 can.1 says.next says.says
+        (no_start_again p unit u sp i says.said (trace steps) can.0 says.next says.says others) run holds_on crosses_on blockless startless
+        ackless alike others
+    by go SentLost can run holds_on crosses_on others =
+        both_step p files SentLost steps s t (some_next p u unit (first_number p.codes unit.file) sp can)
+        (go g _ received count other kp ws vs _ _ run holds_on crosses_on blockless startless ackless alike others)
+    by go TimeOut can run holds_on crosses_on others =
+        both_step p files TimeOut steps s t can
+        (go g Idle received count other kp ws vs _ _ run holds_on crosses_on blockless startless ackless alike others)
+    by go TakeAnswer can run holds_on crosses_on others =
+        repeat_hears p unit u steps go g sp received count other kp ws vs _ _ can run holds_on crosses_on blockless startless ackless alike
+        others
+    by go LoseAnswer can run holds_on crosses_on others =
+        both_step p files LoseAnswer steps s t can
+        (go g sp received count other kp ws _ _ _ run holds_on crosses_on blockless startless (ackless_rest p vs ackless) alike others)
+    by go SinkTakes can run holds_on crosses_on others =
+        repeat_takes p unit u steps go g sp received count other kp ws vs holds.xs _ _ can.0 can.1 holds.sink_words run holds_on crosses_on
+        blockless startless ackless alike others
+    by go Silent can run holds_on crosses_on others =
+        both_step p files Silent steps s t can
+        (go g sp received count other Quiet ws vs _ _ run holds_on crosses_on tt startless ackless (inl refl) others)
     by go (Answered i) can run holds_on crosses_on others =
         let r = owed_form p s i can in
         let same = asked_count kp count other alike (owes_not_quiet kp (may_owes count kp r.said r.owed)) in
-        repeat_answers p unit u steps go i r.said g sp received count other kp ws vs _ _ r.is r.owed (can.0, subst (λ (n : ℕ). MayAnswerForm n kp (form_of p.codes bus.B i.word)) same can.1) same run holds_on crosses_on blockless startless ackless others
-    by go (FreeSeen i) can run holds_on crosses_on others = both_step p files (FreeSeen i) steps s t can (go g sp received count other kp ws vs _ _ run holds_on crosses_on blockless startless ackless alike (other_free p good unit i (trace steps) can others))
+        repeat_answers p unit u steps go i r.said g sp received count other kp ws vs _ _ r.is r.owed (
+          can.0,
+          subst (λ (n : ℕ). MayAnswerForm n kp (form_of p.codes bus.B i.word)) same can.1,
+        ) same run holds_on crosses_on blockless startless ackless others
+    by go (FreeSeen i) can run holds_on crosses_on others =
+        both_step p files (FreeSeen i) steps s t can
+        (go g sp received count other kp ws vs _ _ run holds_on crosses_on blockless startless ackless alike
+        (other_free p good unit i (trace steps) can others))
     by go GiveUp can run holds_on crosses_on others =
-        let next : IsLater p.codes unit (first_number p.codes ((unit.file + 1) % 256)) (suc g) = record { files = 1; some = omega arith; few = omega arith; file = refl; ldu = refl } in
-        both_step p files GiveUp steps s t can (later_rerun p good unit byte steps _ received count other kp ws vs _ _ run holds_on crosses_on next alike)
+        let next : IsLater p.codes unit (first_number p.codes ((unit.file + 1) % 256)) (suc g) =
+        record { files = 1; some = omega arith; few = omega arith; file = refl; ldu = refl } in
+        both_step p files GiveUp steps s t can
+        (later_rerun p good unit byte steps _ received count other kp ws vs _ _ run holds_on crosses_on next alike)
 
 -- ---- from the acknowledgement on
 
 -- steps that only the second makes, and that record nothing
-second_step : (p : Contents) (files : List FileBytes) (a : Step) (steps : List Step) (s t : State) → label a ≡ None → Can p a t → Rerun p files steps s (after p a t) → Rerun p files steps s t
-second_step p files a steps s t none can r = record { again = a ∷ r.again; run = (can, r.run); records = ap (λ (l : Option Seen). with_label l (trace r.again)) none ∙ r.records; delivers = r.delivers }
+second_step : (p : Contents) (files : List FileBytes) (a : Step) (steps : List Step) (s t : State)
+    → label a ≡ None → Can p a t → Rerun p files steps s (after p a t) → Rerun p files steps s t
+second_step p files a steps s t none can r = record {
+  again = a ∷ r.again;
+  run = (can, r.run);
+  records = ap (λ (l : Option Seen). with_label l (trace r.again)) none ∙ r.records;
+  delivers = r.delivers;
+}
 
 -- nothing has come to the sink
 abbrev fresh : ℕ → UnitNumber → Option LduValue → State
 fresh g number cur = other_state (source_at g number cur Idle) 0 Quiet [] []
 
-after_give_ups : (p : Contents) (files : List FileBytes) (steps : List Step) (s : State) (d g h file to : ℕ) → h ≡ g + d → to ≡ (file + d) % 256 → file ≤ 255 → h ≤ 127 → Rerun p files steps s (fresh h (first_number p.codes to) None) → Rerun p files steps s (fresh g (first_number p.codes file) None)
+after_give_ups : (p : Contents) (files : List FileBytes) (steps : List Step) (s : State) (d g h file to : ℕ)
+    → h ≡ g + d → to ≡ (file + d) % 256 → file ≤ 255 → h ≤ 127 → Rerun p files steps s (fresh h (first_number p.codes to) None)
+    → Rerun p files steps s (fresh g (first_number p.codes file) None)
 after_give_ups p files steps s zero g h file to eh et byte few r =
     let same : h ≡ g = omega arith in
     let there : to ≡ file = omega arith in
-    subst (λ (n : ℕ). Rerun p files steps s (fresh g (first_number p.codes n) None)) there (subst (λ (n : ℕ). Rerun p files steps s (fresh n (first_number p.codes to) None)) same r)
+    subst (λ (n : ℕ). Rerun p files steps s (fresh g (first_number p.codes n) None)) there
+    (subst (λ (n : ℕ). Rerun p files steps s (fresh n (first_number p.codes to) None)) same r)
 after_give_ups p files steps s (suc d) g h file to eh et byte few r =
-    second_step p files GiveUp steps s (fresh g (first_number p.codes file) None) refl (tt, omega arith) (after_give_ups p files steps s d (suc g) h ((file + 1) % 256) to (omega arith) (omega arith) (omega arith) few r)
+    second_step p files GiveUp steps s (fresh g (first_number p.codes file) None) refl (tt, omega arith)
+    (after_give_ups p files steps s d (suc g) h ((file + 1) % 256) to (omega arith) (omega arith) (omega arith) few r)
 
 -- a run from the start records these words and delivers these files fewer
 pub record Begun (p : Contents) (files : List FileBytes) (steps : List Step) (s : State) : Type 0 where
@@ -682,17 +908,27 @@ pub record Begun (p : Contents) (files : List FileBytes) (steps : List Step) (s 
   pub byte : first ≤ 255
   pub rerun : Rerun p files steps s (start p first)
 
-begun_none : (p : Contents) (received : Received) (q : Source) (k : Sink) (ws vs : List ℕ) → k.received ≡ received → Begun p received.files [] (state q k ws vs)
-begun_none p received q k ws vs e = record { first = 0; byte = omega arith; rerun = record { again = []; run = tt; records = refl; delivers = ap (λ (r : Received). r.files) e ∙ sym (append-nil received.files) } }
+begun_none : (p : Contents) (received : Received) (q : Source) (k : Sink) (ws vs : List ℕ)
+    → k.received ≡ received → Begun p received.files [] (state q k ws vs)
+begun_none p received q k ws vs e = record {
+  first = 0;
+  byte = omega arith;
+  rerun = record { again = []; run = tt; records = refl; delivers = ap (λ (r : Received). r.files) e ∙ sym (append-nil received.files) };
+}
 
-begun_free : (p : Contents) (files : List FileBytes) (i : Seen) (steps : List Step) (s : State) → Can p (FreeSeen i) s → Begun p files steps s → Begun p files (FreeSeen i ∷ steps) s
-begun_free p files i steps s can b = record { first = b.first; byte = b.byte; rerun = both_step p files (FreeSeen i) steps s (start p b.first) can b.rerun }
+begun_free : (p : Contents) (files : List FileBytes) (i : Seen) (steps : List Step) (s : State)
+    → Can p (FreeSeen i) s → Begun p files steps s → Begun p files (FreeSeen i ∷ steps) s
+begun_free p files i steps s can b =
+    record { first = b.first; byte = b.byte; rerun = both_step p files (FreeSeen i) steps s (start p b.first) can b.rerun }
 
-begun_step : (p : Contents) (files : List FileBytes) (a : Step) (steps : List Step) (s : State) → label a ≡ None → Begun p files steps (after p a s) → Begun p files (a ∷ steps) s
-begun_step p files a steps s none b = record { first = b.first; byte = b.byte; rerun = one_step p files a steps s (start p b.first) none b.rerun }
+begun_step : (p : Contents) (files : List FileBytes) (a : Step) (steps : List Step) (s : State)
+    → label a ≡ None → Begun p files steps (after p a s) → Begun p files (a ∷ steps) s
+begun_step p files a steps s none b =
+    record { first = b.first; byte = b.byte; rerun = one_step p files a steps s (start p b.first) none b.rerun }
 
 -- a source of this unit, before its first request
-repeats_begun : (p : Contents) (files : List FileBytes) (steps : List Step) (s : State) (unit : UnitNumber) (g : ℕ) (u : LduValue) → unit.file ≤ 255 → g ≤ 127 → IsLdu p u → Rerun p files steps s (again_state p unit g u Idle 0 Quiet [] []) → Begun p files steps s
+repeats_begun : (p : Contents) (files : List FileBytes) (steps : List Step) (s : State) (unit : UnitNumber) (g : ℕ) (u : LduValue)
+    → unit.file ≤ 255 → g ≤ 127 → IsLdu p u → Rerun p files steps s (again_state p unit g u Idle 0 Quiet [] []) → Begun p files steps s
 repeats_begun p files steps s unit g u byte few ldu r = record {
   first = (unit.file + 256 - g) % 256;
   byte = omega arith;
@@ -702,32 +938,54 @@ repeats_begun p files steps s unit g u byte few ldu r = record {
 }
 
 -- the acknowledgement is lost
-late_begun : (p : Contents) → IsRead p → (unit : UnitNumber) → unit.file ≤ 255 → (u : LduValue) (steps : List Step) (g : ℕ) (received : Received) (count : ℕ) (o : Received) (fs : List FileBytes) → IsLdu p u → IsRun p steps (one_state unit (repeating g unit u Waiting) received count Quiet [] []) → HoldsAt p (one_state unit (repeating g unit u Waiting) received count Quiet [] []) → CrossesAt p (one_state unit (repeating g unit u Waiting) received count Quiet [] []) o fs → OtherStart p unit (trace steps) → Begun p received.files steps (one_state unit (repeating g unit u Waiting) received count Quiet [] [])
+late_begun : (p : Contents) → IsRead p → (unit : UnitNumber) → unit.file ≤ 255
+    → (u : LduValue) (steps : List Step) (g : ℕ) (received : Received) (count : ℕ) (o : Received) (fs : List FileBytes) → IsLdu p u
+    → IsRun p steps (one_state unit (repeating g unit u Waiting) received count Quiet [] [])
+    → HoldsAt p (one_state unit (repeating g unit u Waiting) received count Quiet [] [])
+    → CrossesAt p (one_state unit (repeating g unit u Waiting) received count Quiet [] []) o fs → OtherStart p unit (trace steps)
+    → Begun p received.files steps (one_state unit (repeating g unit u Waiting) received count Quiet [] [])
 late_begun p good unit byte u [] g received count o fs ldu run holds crosses others = begun_none p received _ _ _ _ refl
-late_begun p good unit byte u (a ∷ steps) g received count o fs ldu run holds crosses others = by (λ x fs run holds crosses others. late_begun p good unit byte u steps g received count x fs ldu run holds crosses others) a run.0 run.1 (step_holds p good a s run.0 holds) (step_crosses p good a s o fs run.0 holds crosses) others
+late_begun p good unit byte u (a ∷ steps) g received count o fs ldu run holds crosses others =
+    by (λ x fs run holds crosses others. late_begun p good unit byte u steps g received count x fs ldu run holds crosses others) a run.0
+    run.1 (step_holds p good a s run.0 holds) (step_crosses p good a s o fs run.0 holds crosses) others
   where
     s : State
     s = one_state unit (repeating g unit u Waiting) received count Quiet [] []
 
-    by : ((o : Received) (fs : List FileBytes) → IsRun p steps s → HoldsAt p s → CrossesAt p s o fs → OtherStart p unit (trace steps) → Begun p received.files steps s) → (a : Step) → Can p a s → IsRun p steps (after p a s) → HoldsAt p (after p a s) → CrossesAt p (after p a s) (offers p a s o) (settles p a s o fs) → OtherStart p unit (trace (a ∷ steps)) → Begun p received.files (a ∷ steps) s
+    by : ((o : Received) (fs : List FileBytes)
+        → IsRun p steps s → HoldsAt p s → CrossesAt p s o fs → OtherStart p unit (trace steps) → Begun p received.files steps s)
+        → (a : Step) → Can p a s → IsRun p steps (after p a s) → HoldsAt p (after p a s)
+        → CrossesAt p (after p a s) (offers p a s o) (settles p a s o fs) → OtherStart p unit (trace (a ∷ steps))
+        → Begun p received.files (a ∷ steps) s
     by go (Load v) can run holds_on crosses_on others = absurd can.0
     by go (Sent i) can run holds_on crosses_on others = absurd (cc can.1)
     by go SentLost can run holds_on crosses_on others = absurd (cc can)
     by go TimeOut can run holds_on crosses_on others =
         begun_step p received.files TimeOut steps s refl
-        (repeats_begun p received.files steps (after p TimeOut s) unit g u byte crosses.few ldu (repeat_rerun p good unit byte u steps g Idle received count 0 Quiet [] [] _ _ run holds_on crosses_on tt tt tt (inl refl) others))
+        (repeats_begun p received.files steps (after p TimeOut s) unit g u byte crosses.few ldu
+        (repeat_rerun p good unit byte u steps g Idle received count 0 Quiet [] [] _ _ run holds_on crosses_on tt tt tt (inl refl) others))
     by go TakeAnswer can run holds_on crosses_on others = absurd can
     by go LoseAnswer can run holds_on crosses_on others = absurd can
     by go SinkTakes can run holds_on crosses_on others = absurd can.0
     by go Silent can run holds_on crosses_on others = absurd can
     by go (Answered i) can run holds_on crosses_on others = let r = owed_form p s i can in absurd (may_owes count Quiet r.said r.owed)
-    by go (FreeSeen i) can run holds_on crosses_on others = begun_free p received.files i steps s can (go _ _ run holds_on crosses_on (other_free p good unit i (trace steps) can others))
+    by go (FreeSeen i) can run holds_on crosses_on others =
+        begun_free p received.files i steps s can (go _ _ run holds_on crosses_on (other_free p good unit i (trace steps) can others))
     by go GiveUp can run holds_on crosses_on others = absurd can.0
 
 -- the acknowledgement by which a file crosses is on its way: the words that are recorded from there on are those of a run from the start
-pub crossed_begun : (p : Contents) → IsRead p → (unit : UnitNumber) → unit.file ≤ 255 → (u : LduValue) (v : ℕ) (steps : List Step) (g : ℕ) (received : Received) (count : ℕ) (o : Received) (fs : List FileBytes) → IsLdu p u → is_final p.codes u.flags ≡ true → message_of p bus.B v ≡ Some (Ack unit.file unit.ldu) → IsRun p steps (one_state unit (repeating g unit u Waiting) received count Quiet [] (v ∷ [])) → HoldsAt p (one_state unit (repeating g unit u Waiting) received count Quiet [] (v ∷ [])) → CrossesAt p (one_state unit (repeating g unit u Waiting) received count Quiet [] (v ∷ [])) o fs → OtherStart p unit (trace steps) → Begun p received.files steps (one_state unit (repeating g unit u Waiting) received count Quiet [] (v ∷ []))
+pub crossed_begun : (p : Contents) → IsRead p → (unit : UnitNumber) → unit.file ≤ 255
+    → (u : LduValue) (v : ℕ) (steps : List Step) (g : ℕ) (received : Received) (count : ℕ) (o : Received) (fs : List FileBytes) → IsLdu p u
+    → is_final p.codes u.flags ≡ true → message_of p bus.B v ≡ Some (Ack unit.file unit.ldu)
+    → IsRun p steps (one_state unit (repeating g unit u Waiting) received count Quiet [] (v ∷ []))
+    → HoldsAt p (one_state unit (repeating g unit u Waiting) received count Quiet [] (v ∷ []))
+    → CrossesAt p (one_state unit (repeating g unit u Waiting) received count Quiet [] (v ∷ [])) o fs → OtherStart p unit (trace steps)
+    → Begun p received.files steps (one_state unit (repeating g unit u Waiting) received count Quiet [] (v ∷ []))
 crossed_begun p good unit byte u v [] g received count o fs ldu final says run holds crosses others = begun_none p received _ _ _ _ refl
-crossed_begun p good unit byte u v (a ∷ steps) g received count o fs ldu final says run holds crosses others = by (λ x fs run holds crosses others. crossed_begun p good unit byte u v steps g received count x fs ldu final says run holds crosses others) a run.0 run.1 (step_holds p good a s run.0 holds) (step_crosses p good a s o fs run.0 holds crosses) others
+crossed_begun p good unit byte u v (a ∷ steps) g received count o fs ldu final says run holds crosses others =
+    by (λ x fs run holds crosses others.
+    crossed_begun p good unit byte u v steps g received count x fs ldu final says run holds crosses others) a run.0 run.1
+    (step_holds p good a s run.0 holds) (step_crosses p good a s o fs run.0 holds crosses) others
   where
     s : State
     s = one_state unit (repeating g unit u Waiting) received count Quiet [] (v ∷ [])
@@ -741,7 +999,11 @@ crossed_begun p good unit byte u v (a ∷ steps) g received count o fs ldu final
         ∙ ap (λ (t : Bool). cond t (acknowledged p.codes u (repeating g unit u Waiting)) (repeating g unit u Waiting)) (number_same unit)
         ∙ ap (λ (t : Bool). source_at 0 (next_number p.codes unit t) None Idle) final
 
-    by : ((o : Received) (fs : List FileBytes) → IsRun p steps s → HoldsAt p s → CrossesAt p s o fs → OtherStart p unit (trace steps) → Begun p received.files steps s) → (a : Step) → Can p a s → IsRun p steps (after p a s) → HoldsAt p (after p a s) → CrossesAt p (after p a s) (offers p a s o) (settles p a s o fs) → OtherStart p unit (trace (a ∷ steps)) → Begun p received.files (a ∷ steps) s
+    by : ((o : Received) (fs : List FileBytes)
+        → IsRun p steps s → HoldsAt p s → CrossesAt p s o fs → OtherStart p unit (trace steps) → Begun p received.files steps s)
+        → (a : Step) → Can p a s → IsRun p steps (after p a s) → HoldsAt p (after p a s)
+        → CrossesAt p (after p a s) (offers p a s o) (settles p a s o fs) → OtherStart p unit (trace (a ∷ steps))
+        → Begun p received.files (a ∷ steps) s
     by go (Load w) can run holds_on crosses_on others = absurd can.0
     by go (Sent i) can run holds_on crosses_on others = absurd (cc can.1)
     by go SentLost can run holds_on crosses_on others = absurd (cc can)
@@ -756,10 +1018,17 @@ crossed_begun p good unit byte u v (a ∷ steps) g received count o fs ldu final
         (subst (λ (q : Source). CrossesAt p (state q k [] []) (offers p TakeAnswer s o) (settles p TakeAnswer s o fs)) heard crosses_on)
         later (inl refl) in
         begun_step p received.files TakeAnswer steps s refl
-        (record { first = (unit.file + 1) % 256; byte = omega arith; rerun = subst (λ (q : Source). Rerun p received.files steps (state q k [] []) (start p ((unit.file + 1) % 256))) (sym heard) r })
-    by go LoseAnswer can run holds_on crosses_on others = begun_step p received.files LoseAnswer steps s refl (late_begun p good unit byte u steps g received count _ _ ldu run holds_on crosses_on others)
+        (record {
+          first = (unit.file + 1) % 256;
+          byte = omega arith;
+          rerun = subst (λ (q : Source). Rerun p received.files steps (state q k [] []) (start p ((unit.file + 1) % 256))) (sym heard) r;
+        })
+    by go LoseAnswer can run holds_on crosses_on others =
+        begun_step p received.files LoseAnswer steps s refl
+        (late_begun p good unit byte u steps g received count _ _ ldu run holds_on crosses_on others)
     by go SinkTakes can run holds_on crosses_on others = absurd can.0
     by go Silent can run holds_on crosses_on others = absurd can
     by go (Answered i) can run holds_on crosses_on others = let r = owed_form p s i can in absurd (may_owes count Quiet r.said r.owed)
-    by go (FreeSeen i) can run holds_on crosses_on others = begun_free p received.files i steps s can (go _ _ run holds_on crosses_on (other_free p good unit i (trace steps) can others))
+    by go (FreeSeen i) can run holds_on crosses_on others =
+        begun_free p received.files i steps s can (go _ _ run holds_on crosses_on (other_free p good unit i (trace steps) can others))
     by go GiveUp can run holds_on crosses_on others = absurd can.0

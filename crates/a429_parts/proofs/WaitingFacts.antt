@@ -54,7 +54,8 @@ are_drop (suc n) [] h = tt
 are_drop (suc n) (e ∷ es) h = are_drop n es h.2
 
 -- one more line
-pushed : (lines line after : List ℕ) (e : Entry) → AreWritten lines → e.time < 2 ^ 64 → e.word < 2 ^ 32 → line ≡ line_text e → after ≡ lines ++ line
+pushed : (lines line after : List ℕ) (e : Entry)
+    → AreWritten lines → e.time < 2 ^ 64 → e.word < 2 ^ 32 → line ≡ line_text e → after ≡ lines ++ line
     → AreOf after (entries_of lines ++ e ∷ [])
 pushed lines line after e h ht hw is more =
     let es = entries_of lines in
@@ -68,14 +69,18 @@ pub line_pushed : (before : List Entry) (lines line new : List ℕ) (after : Lis
     → AreWritten lines → e.time < 2 ^ 64 → e.word < 2 ^ 32 → line ≡ line_text e → after ≡ [] → new ≡ lines ++ line
     → AreWritten new × (before ++ (entries_of new ++ after) ≡ (before ++ (entries_of lines ++ after)) ++ e ∷ [])
 line_pushed before lines line new after e h ht hw is none more =
-    let of = pushed lines line new e h ht hw is more in
-    (of.written, rw (none, of.entries, append-nil (entries_of lines ++ e ∷ []), append-nil (entries_of lines)) (sym (append_assoc before (entries_of lines) (e ∷ []))))
+    let of = pushed lines line new e h ht hw is more in (
+      of.written,
+      rw (none, of.entries, append-nil (entries_of lines ++ e ∷ []), append-nil (entries_of lines))
+          (sym (append_assoc before (entries_of lines) (e ∷ []))),
+    )
 
 -- the same, where it is an entry after them
 pub entry_pushed : (before : List Entry) (lines : List ℕ) (after new : List Entry) (e : Entry) → new ≡ after ++ e ∷ []
     → before ++ (entries_of lines ++ new) ≡ (before ++ (entries_of lines ++ after)) ++ e ∷ []
 entry_pushed before lines after new e more =
-    ap (λ (l : List Entry). before ++ (entries_of lines ++ l)) more ∙ ap (λ (l : List Entry). before ++ l) (sym (append_assoc (entries_of lines) after (e ∷ [])))
+    ap (λ (l : List Entry). before ++ (entries_of lines ++ l)) more
+    ∙ ap (λ (l : List Entry). before ++ l) (sym (append_assoc (entries_of lines) after (e ∷ [])))
     ∙ sym (append_assoc before (entries_of lines ++ after) (e ∷ []))
 
 -- ---- the last of some lines
@@ -86,7 +91,8 @@ IsEnded bs = (bs ≡ []) ⊎ ((q : List ℕ) × (bs ≡ q ++ 10 ∷ []))
 
 longer : (e : Entry) (rest : List ℕ) → IsEnded rest → IsEnded (line_text e ++ rest)
 longer e rest (inl none) = inr (body e, line-is e rest ∙ ap (λ (t : List ℕ). body e ++ 10 ∷ t) none)
-longer e rest (inr (q, is)) = inr (line_text e ++ q, ap (λ (t : List ℕ). line_text e ++ t) is ∙ sym (append_assoc (line_text e) q (10 ∷ [])))
+longer e rest (inr (q, is)) =
+    inr (line_text e ++ q, ap (λ (t : List ℕ). line_text e ++ t) is ∙ sym (append_assoc (line_text e) q (10 ∷ [])))
 
 ended : (es : List Entry) → IsEnded (flat_map line_text es)
 ended [] = inl refl
@@ -105,17 +111,21 @@ last_end bs line None (inl none) h last = ap length none
 last_end bs line None (inr (q, is)) h last =
     let size : length bs ≡ length q + 1 = ap length is ∙ length-append q (10 ∷ []) in
     let there : get_or (bs ++ line) (length q) 0 ≡ 10 =
-    ap (λ (t : List ℕ). get_or t (length q) 0) (ap (λ (t : List ℕ). t ++ line) is ∙ append_assoc q (10 ∷ []) line) ∙ get_or_at q 10 line 0 (length q) refl in
+    ap (λ (t : List ℕ). get_or t (length q) 0) (ap (λ (t : List ℕ). t ++ line) is ∙ append_assoc q (10 ∷ []) line)
+    ∙ get_or_at q 10 line 0 (length q) refl in
     absurd (last (length q) (omega arith) (omega (arith, size, length-append bs line)) (ap (λ (b : ℕ). b == 10) there))
 last_end bs line (Some n) (inl none) h last =
     absurd (none_at line n h (ap (λ (t : List ℕ). get_or (t ++ line) n 0 == 10) (sym none) ∙ last.1))
 last_end bs line (Some n) (inr (q, is)) h last =
     let size : length bs ≡ length q + 1 = ap length is ∙ length-append q (10 ∷ []) in
     let there : get_or (bs ++ line) (length q) 0 ≡ 10 =
-    ap (λ (t : List ℕ). get_or t (length q) 0) (ap (λ (t : List ℕ). t ++ line) is ∙ append_assoc q (10 ∷ []) line) ∙ get_or_at q 10 line 0 (length q) refl in
-    let before : n < length q → ⊥ = λ less. last.0.after (length q) (omega arith) (omega (arith, size, length-append bs line)) (ap (λ (b : ℕ). b == 10) there) in
+    ap (λ (t : List ℕ). get_or t (length q) 0) (ap (λ (t : List ℕ). t ++ line) is ∙ append_assoc q (10 ∷ []) line)
+    ∙ get_or_at q 10 line 0 (length q) refl in
+    let before : n < length q → ⊥ =
+    λ less. last.0.after (length q) (omega arith) (omega (arith, size, length-append bs line)) (ap (λ (b : ℕ). b == 10) there) in
     let after : length q < n → ⊥ = λ less.
-    none_at line (n - length bs) h (ap (λ (b : ℕ). b == 10) (sym (get_or-append_right bs line (length bs) n 0 refl (omega (arith, size)))) ∙ last.1) in
+    none_at line (n - length bs) h
+    (ap (λ (b : ℕ). b == 10) (sym (get_or-append_right bs line (length bs) n 0 refl (omega (arith, size)))) ∙ last.1) in
     omega (arith, size, before, after)
 
 -- (for lists that are too short)
@@ -135,7 +145,11 @@ parted lines n h = h.0 ∙ sym (flat_map-rest line_text (entries_of lines) n)
 -- the first of them have no more bytes than all
 pub size_within : (lines : List ℕ) (n : ℕ) → AreWritten lines → size_of n (entries_of lines) ≤ length lines
 size_within lines n h =
-    omega (arith, ap length (parted lines n h), length-append (flat_map line_text (take n (entries_of lines))) (flat_map line_text (drop n (entries_of lines))))
+    omega (
+      arith,
+      ap length (parted lines n h),
+      length-append (flat_map line_text (take n (entries_of lines))) (flat_map line_text (drop n (entries_of lines))),
+    )
 
 -- where one more than so many of the lines end, and the last of these, without its line feed
 record HasLine (lines : List ℕ) (n : ℕ) : Type 0 where
@@ -166,7 +180,8 @@ has_line lines n h below =
     }
 
 -- where all but the last lines end, so many
-before_last : (lines : List ℕ) (i start : ℕ) → i < length (entries_of lines) → start ≡ size_of (length (entries_of lines) - i) (entries_of lines)
+before_last : (lines : List ℕ) (i start : ℕ)
+    → i < length (entries_of lines) → start ≡ size_of (length (entries_of lines) - i) (entries_of lines)
     → start ≡ size_of (length (entries_of lines) - (i + 1) + 1) (entries_of lines)
 before_last lines i start below is =
     let es = entries_of lines in
@@ -186,13 +201,16 @@ last_within lines i start h below is =
 pub last_begins : (lines : List ℕ) (i start : ℕ) (r : Option ℕ)
     → AreWritten lines → i < length (entries_of lines) → start ≡ size_of (length (entries_of lines) - i) (entries_of lines)
     → IsLastByte (is_byte 10) (take (start - 1) lines) r
-    → MatchOption r (size_of (length (entries_of lines) - (i + 1)) (entries_of lines) ≡ 0) (λ k. k + 1 ≡ size_of (length (entries_of lines) - (i + 1)) (entries_of lines))
+    → MatchOption r (size_of (length (entries_of lines) - (i + 1)) (entries_of lines) ≡ 0)
+    (λ k. k + 1 ≡ size_of (length (entries_of lines) - (i + 1)) (entries_of lines))
 last_begins lines i start r h below is last =
     let es = entries_of lines in
     let n = length es - (i + 1) in
     let l = has_line lines n h (omega arith) in
-    let text : take (start - 1) lines ≡ flat_map line_text (take n es) ++ l.line = ap (λ (k : ℕ). take (k - 1) lines) (before_last lines i start below is) ∙ l.is in
-    last_end (flat_map line_text (take n es)) l.line r (ended (take n es)) l.one (subst (λ (t : List ℕ). IsLastByte (is_byte 10) t r) text last)
+    let text : take (start - 1) lines ≡ flat_map line_text (take n es) ++ l.line =
+    ap (λ (k : ℕ). take (k - 1) lines) (before_last lines i start below is) ∙ l.is in
+    last_end (flat_map line_text (take n es)) l.line r (ended (take n es)) l.one
+    (subst (λ (t : List ℕ). IsLastByte (is_byte 10) t r) text last)
 
 -- ---- entries, lines and entries, in two
 
@@ -212,18 +230,21 @@ lines_taken : (lines : List ℕ) (n : ℕ) → AreWritten lines
 lines_taken lines n h =
     let es = entries_of lines in
     are_of (take (size_of n es) lines) (take n es) (are_take n es h.1)
-    (ap (take (size_of n es)) (parted lines n h) ∙ take_at (flat_map line_text (take n es)) (flat_map line_text (drop n es)) (size_of n es) refl)
+    (ap (take (size_of n es)) (parted lines n h)
+    ∙ take_at (flat_map line_text (take n es)) (flat_map line_text (drop n es)) (size_of n es) refl)
 
 lines_dropped : (lines : List ℕ) (n : ℕ) → AreWritten lines
     → AreOf (drop (size_of n (entries_of lines)) lines) (drop n (entries_of lines))
 lines_dropped lines n h =
     let es = entries_of lines in
     are_of (drop (size_of n es) lines) (drop n es) (are_drop n es h.1)
-    (ap (drop (size_of n es)) (parted lines n h) ∙ drop_at (flat_map line_text (take n es)) (flat_map line_text (drop n es)) (size_of n es) refl)
+    (ap (drop (size_of n es)) (parted lines n h)
+    ∙ drop_at (flat_map line_text (take n es)) (flat_map line_text (drop n es)) (size_of n es) refl)
 
 -- the end of some lines is the same, where one more line is there
 pub end_stays : (lines line new : List ℕ) (e : Entry) (end : LineEnd)
-    → AreWritten lines → e.time < 2 ^ 64 → e.word < 2 ^ 32 → line ≡ line_text e → new ≡ lines ++ line → IsLineEnd lines end → IsLineEnd new end
+    → AreWritten lines → e.time < 2 ^ 64 → e.word < 2 ^ 32 → line ≡ line_text e → new ≡ lines ++ line → IsLineEnd lines end
+    → IsLineEnd new end
 end_stays lines line new e end h ht hw text more is =
     let es = entries_of lines in
     let all : entries_of new ≡ es ++ e ∷ [] = (pushed lines line new e h ht hw text more).entries in
@@ -242,7 +263,8 @@ pub record AreBefore (lines : List ℕ) (end : LineEnd) : Type 0 where
 pub are_before : (lines : List ℕ) (end : LineEnd) → AreWritten lines → IsLineEnd lines end → AreBefore lines end
 are_before lines end h is =
     let es = entries_of lines in
-    let of : AreOf (take end.bytes lines) (take end.lines es) = subst (λ (k : ℕ). AreOf (take k lines) (take end.lines es)) (sym is.1) (lines_taken lines end.lines h) in
+    let of : AreOf (take end.bytes lines) (take end.lines es) =
+    subst (λ (k : ℕ). AreOf (take k lines) (take end.lines es)) (sym is.1) (lines_taken lines end.lines h) in
     record {
       within = omega (arith, is.1, size_within lines end.lines h);
       front = of;
@@ -267,7 +289,8 @@ pub record IsEnd (before : List Entry) (lines : List ℕ) (after : List Entry) (
 
 -- the same, said of lists that are equal to these
 pub is_end : (b : List Entry) (l : List ℕ) (before : List Entry) (lines : List ℕ) (after : List Entry) (size : ℕ) (cut : Cut)
-    → b ≡ before → l ≡ lines → cut.before ≡ min size (length b) → cut.lines ≡ size_of (size - length b) (entries_of l) → cut.after ≡ size - length b - length (entries_of l) → IsEnd before lines after size cut
+    → b ≡ before → l ≡ lines → cut.before ≡ min size (length b) → cut.lines ≡ size_of (size - length b) (entries_of l)
+    → cut.after ≡ size - length b - length (entries_of l) → IsEnd before lines after size cut
 is_end b l before lines after size cut be le bis lis ais = record {
   before_is = rw be at bis;
   lines_is = rw (be, le) at lis;
@@ -277,27 +300,35 @@ is_end b l before lines after size cut be le bis lis ais = record {
 -- the first of them
 pub all_taken : (before : List Entry) (lines : List ℕ) (after : List Entry) (size : ℕ) (cut : Cut)
     → AreWritten lines → IsEnd before lines after size cut
-    → AreWritten (take cut.lines lines) × (take cut.before before ++ (entries_of (take cut.lines lines) ++ take cut.after after) ≡ take size (before ++ (entries_of lines ++ after)))
+    → AreWritten (take cut.lines lines)
+    × (take cut.before before ++ (entries_of (take cut.lines lines) ++ take cut.after after)
+    ≡ take size (before ++ (entries_of lines ++ after)))
 all_taken before lines after size cut h end =
     let es = entries_of lines in
     let n = size - length before in
-    let of : AreOf (take cut.lines lines) (take n es) = subst (λ (k : ℕ). AreOf (take k lines) (take n es)) (sym end.lines_is) (lines_taken lines n h) in
+    let of : AreOf (take cut.lines lines) (take n es) =
+    subst (λ (k : ℕ). AreOf (take k lines) (take n es)) (sym end.lines_is) (lines_taken lines n h) in
     let front : take cut.before before ≡ take size before = ap (λ (k : ℕ). take k before) end.before_is ∙ take_min size before in (
       of.written,
-      rw (front, of.entries, end.after_is) (sym (taken before (es ++ after) size ∙ ap (λ (l : List Entry). take size before ++ l) (taken es after n))),
+      rw (front, of.entries, end.after_is)
+          (sym (taken before (es ++ after) size ∙ ap (λ (l : List Entry). take size before ++ l) (taken es after n))),
     )
 
 -- the rest
 all_dropped : (before : List Entry) (lines : List ℕ) (after : List Entry) (size : ℕ) (cut : Cut)
     → AreWritten lines → IsEnd before lines after size cut
-    → AreWritten (drop cut.lines lines) × (drop cut.before before ++ (entries_of (drop cut.lines lines) ++ drop cut.after after) ≡ drop size (before ++ (entries_of lines ++ after)))
+    → AreWritten (drop cut.lines lines)
+    × (drop cut.before before ++ (entries_of (drop cut.lines lines) ++ drop cut.after after)
+    ≡ drop size (before ++ (entries_of lines ++ after)))
 all_dropped before lines after size cut h end =
     let es = entries_of lines in
     let n = size - length before in
-    let of : AreOf (drop cut.lines lines) (drop n es) = subst (λ (k : ℕ). AreOf (drop k lines) (drop n es)) (sym end.lines_is) (lines_dropped lines n h) in
+    let of : AreOf (drop cut.lines lines) (drop n es) =
+    subst (λ (k : ℕ). AreOf (drop k lines) (drop n es)) (sym end.lines_is) (lines_dropped lines n h) in
     let front : drop cut.before before ≡ drop size before = ap (λ (k : ℕ). drop k before) end.before_is ∙ drop_min size before in (
       of.written,
-      rw (front, of.entries, end.after_is) (sym (dropped before (es ++ after) size ∙ ap (λ (l : List Entry). drop size before ++ l) (dropped es after n))),
+      rw (front, of.entries, end.after_is)
+          (sym (dropped before (es ++ after) size ∙ ap (λ (l : List Entry). drop size before ++ l) (dropped es after n))),
     )
 
 -- a list without elements, as a test of its length says
@@ -315,5 +346,6 @@ left before lines after size cut b l a h end be le ae =
     (subst AreWritten (sym le) rest.0, rw (be, le, ae) rest.1)
 
 -- the entries after the lines, where only they are left
-pub alone : (b : List Entry) (l : List ℕ) (a x y : List Entry) → b ≡ [] → l ≡ [] → x ++ y ≡ a → x ++ (entries_of l ++ y) ≡ b ++ (entries_of l ++ a)
+pub alone : (b : List Entry) (l : List ℕ) (a x y : List Entry)
+    → b ≡ [] → l ≡ [] → x ++ y ≡ a → x ++ (entries_of l ++ y) ≡ b ++ (entries_of l ++ a)
 alone b l a x y be le all = rw (be, le) all

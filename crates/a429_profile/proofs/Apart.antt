@@ -16,13 +16,15 @@ meets-nil : {X : Type 0} (meet : X → X → Bool) (earlier : List X) → NoneMe
 meets-nil meet [] = tt
 meets-nil meet (o ∷ os) = (tt, meets-nil meet os)
 
-meets-cons : {X : Type 0} (meet : X → X → Bool) (earlier : List X) (x : X) (xs : List X) → list_any (λ o. meet o x) earlier ≡ false → NoneMeets meet (earlier ++ x ∷ []) xs → NoneMeets meet earlier (x ∷ xs)
+meets-cons : {X : Type 0} (meet : X → X → Bool) (earlier : List X) (x : X) (xs : List X) → list_any (λ o. meet o x) earlier ≡ false
+    → NoneMeets meet (earlier ++ x ∷ []) xs → NoneMeets meet earlier (x ∷ xs)
 meets-cons meet [] x xs h none = tt
 meets-cons meet (o ∷ os) x xs h none =
     let parts = or_parts (meet o x) (list_any (λ p. meet p x) os) h in
     ((parts.0, none.0), meets-cons meet os x xs parts.1 none.1)
 
-meets-last : {X : Type 0} (meet : X → X → Bool) (earlier : List X) (x : X) (xs : List X) → NoneMeets meet (earlier ++ x ∷ []) xs → MeetsNone meet x xs
+meets-last : {X : Type 0} (meet : X → X → Bool) (earlier : List X) (x : X) (xs : List X) → NoneMeets meet (earlier ++ x ∷ []) xs
+    → MeetsNone meet x xs
 meets-last meet [] x xs none = none.0
 meets-last meet (o ∷ os) x xs none = meets-last meet os x xs none.1
 
@@ -31,5 +33,6 @@ meets-after meet earlier [] apart = meets-nil meet earlier
 meets-after meet earlier (x ∷ xs) apart = meets-cons meet earlier x xs apart.0 (meets-after meet (earlier ++ x ∷ []) xs apart.1)
 
 -- the first of what is left meets none of those after it
-pub meets_none-first : {X : Type 0} (meet : X → X → Bool) (earlier : List X) (x : X) (xs : List X) → AreApartAfter meet earlier (x ∷ xs) → MeetsNone meet x xs
+pub meets_none-first : {X : Type 0} (meet : X → X → Bool) (earlier : List X) (x : X) (xs : List X) → AreApartAfter meet earlier (x ∷ xs)
+    → MeetsNone meet x xs
 meets_none-first meet earlier x xs apart = meets-last meet earlier x xs (meets-after meet (earlier ++ x ∷ []) xs apart.1)

@@ -44,8 +44,11 @@ none_before n (f ∷ fs) h =
 new_of : (label : ℕ) (earlier fs : List Flag) → bit_after label earlier fs ≡ None → AreNewAfter (bits earlier) (bits fs)
 new_of label earlier [] h = tt
 new_of label earlier (f ∷ fs) h =
-    let parts = not_some (list_any (λ o. o.bit == f.bit) earlier) (BitClash label f.bit) (bit_after label (earlier ++ f ∷ []) fs) h in
-    (none_before f.bit earlier parts.0, subst (λ ns. AreNewAfter ns (bits fs)) (map-append (λ (g : Flag). g.bit) earlier (f ∷ [])) (new_of label (earlier ++ f ∷ []) fs parts.1))
+    let parts = not_some (list_any (λ o. o.bit == f.bit) earlier) (BitClash label f.bit) (bit_after label (earlier ++ f ∷ []) fs) h in (
+      none_before f.bit earlier parts.0,
+      subst (λ ns. AreNewAfter ns (bits fs)) (map-append (λ (g : Flag). g.bit) earlier (f ∷ []))
+          (new_of label (earlier ++ f ∷ []) fs parts.1),
+    )
 
 distinct_bits : (label : ℕ) (kind : Kind) → bit_clash_in label kind ≡ None → HasDistinctBits kind
 distinct_bits label (Bnr significant range decimals) h = tt
@@ -68,4 +71,5 @@ no_addresses c p =
 pub bits_differ : (c : Contents) → IsProfile c → All (λ e. HasDistinctBits e.kind) c.labels
 bits_differ c p =
     let parts = first_or_none (label_clash_after c.codes [] c.labels) (first_or (code_clash c.codes) (bit_clash c.labels)) (no_clash c p) in
-    All-from_recursion (λ e. HasDistinctBits e.kind) c.labels (all_distinct c.labels (first_or_none (code_clash c.codes) (bit_clash c.labels) parts.1).1)
+    All-from_recursion (λ e. HasDistinctBits e.kind) c.labels
+    (all_distinct c.labels (first_or_none (code_clash c.codes) (bit_clash c.labels) parts.1).1)

@@ -44,8 +44,11 @@ none_before n (x ∷ xs) h =
 new_of : (earlier xs : List NumberAtKey) → twins_after earlier xs ≡ None → AreNewAfter (numbers earlier) (numbers xs)
 new_of earlier [] h = tt
 new_of earlier (x ∷ xs) h =
-    let parts = no_twin (key_of x.1 earlier) x.0 (twins_after (earlier ++ x ∷ []) xs) h in
-    (none_before x.1 earlier parts.0, subst (λ ns. AreNewAfter ns (numbers xs)) (map-append (λ (y : NumberAtKey). y.1) earlier (x ∷ [])) (new_of (earlier ++ x ∷ []) xs parts.1))
+    let parts = no_twin (key_of x.1 earlier) x.0 (twins_after (earlier ++ x ∷ []) xs) h in (
+      none_before x.1 earlier parts.0,
+      subst (λ ns. AreNewAfter ns (numbers xs)) (map-append (λ (y : NumberAtKey). y.1) earlier (x ∷ []))
+          (new_of (earlier ++ x ∷ []) xs parts.1),
+    )
 
 differ : (xs : List NumberAtKey) → twins_after [] xs ≡ None → IsDistinct nat_eq (numbers xs)
 differ xs h = distinct_of [] (numbers xs) (new_of [] xs h)

@@ -29,11 +29,13 @@ flag-in_range (Some ms) h =
     let parts = and_parts (holds_at (is_number_between 11 29) (codes "bit") ms) _ h in
     (bit (get_member (codes "bit") ms) parts.0, name (get_member (codes "name") ms) parts.1)
   where
-    bit : (d : Option Data) → option_map_or (is_number_between 11 29) d false ≡ true → (11 ≤ option_map_or number_of_value d 0) × (option_map_or number_of_value d 0 ≤ 29)
+    bit : (d : Option Data) → option_map_or (is_number_between 11 29) d false ≡ true
+        → (11 ≤ option_map_or number_of_value d 0) × (option_map_or number_of_value d 0 ≤ 29)
     bit None h = absurd (cc)
     bit (Some d) h = between 11 29 (integer_of_value d) h
 
-    name : (d : Option Data) → option_map_or (λ x. is_printable_text 1 32 (text_of_value x)) d false ≡ true → IsTextOf 1 32 (option_map_or text_of_value d [])
+    name : (d : Option Data)
+        → option_map_or (λ x. is_printable_text 1 32 (text_of_value x)) d false ≡ true → IsTextOf 1 32 (option_map_or text_of_value d [])
     name None h = absurd (cc)
     name (Some d) h = printable_text 1 32 (text_of_value d) h
 
@@ -42,13 +44,18 @@ bits-in_range ds h = recursion_from_All IsFlagBit (map flag_of ds)
     (All-map IsFlagBit flag_of ds (each is_flag_in_range (λ d. IsFlagBit (flag_of d)) (λ d is. (flag-in_range (as_table d) is).0) ds h))
 
 names-in_range : (ds : List Data) → list_all is_flag_in_range ds ≡ true → All (λ f. IsTextOf 1 32 f.name) (map flag_of ds)
-names-in_range ds h = All-map (λ f. IsTextOf 1 32 f.name) flag_of ds (each is_flag_in_range (λ d. IsTextOf 1 32 (flag_of d).name) (λ d is. (flag-in_range (as_table d) is).1) ds h)
+names-in_range ds h =
+    All-map (λ f. IsTextOf 1 32 f.name) flag_of ds
+    (each is_flag_in_range (λ d. IsTextOf 1 32 (flag_of d).name) (λ d is. (flag-in_range (as_table d) is).1) ds h)
 
 -- what the rule of the flags says of the tables that they are read from
-flags_place : (i : ℕ) (ms : Members) → first_label_fault i ms (keys_of_kind (Some word.Discrete)) ≡ None → is_in_range flags (value_at_place (label_place ms label.Flags)) ≡ true
-flags_place i ms h = in_its_range (at.Label i label.Flags) flags (label_place ms label.Flags) (first_or_none (label_fault i ms label.Flags) _ h).0
+flags_place : (i : ℕ) (ms : Members) → first_label_fault i ms (keys_of_kind (Some word.Discrete)) ≡ None
+    → is_in_range flags (value_at_place (label_place ms label.Flags)) ≡ true
+flags_place i ms h =
+    in_its_range (at.Label i label.Flags) flags (label_place ms label.Flags) (first_or_none (label_fault i ms label.Flags) _ h).0
 
-has_flags : (i : ℕ) (ms : Members) (o : Option KindWord) → is_some o ≡ true → first_label_fault i ms (keys_of_kind o) ≡ None → HasFlags (kind_in ms o)
+has_flags : (i : ℕ) (ms : Members) (o : Option KindWord)
+    → is_some o ≡ true → first_label_fault i ms (keys_of_kind o) ≡ None → HasFlags (kind_in ms o)
 has_flags i ms None some h = absurd (cc)
 has_flags i ms (Some word.Bnr) some h = tt
 has_flags i ms (Some word.Bcd) some h = tt
@@ -79,7 +86,8 @@ kind-in_range i ms (Some word.Bcd) h =
     (digits.0, digits.1, decimals.1)
 kind-in_range i ms (Some word.Discrete) h =
     let tables : List Data = elements_of (value_at_place (label_place ms label.Flags)) in
-    bits-in_range tables (and_parts (nat_le 1 (length tables) && nat_le (length tables) 19) (list_all is_flag_in_range tables) (flags_place i ms h)).1
+    bits-in_range tables
+    (and_parts (nat_le 1 (length tables) && nat_le (length tables) 19) (list_all is_flag_in_range tables) (flags_place i ms h)).1
 
 -- ---- entries
 
@@ -99,7 +107,8 @@ entry-in_range i ms h =
       flags = has_flags i ms (kind_word_in_table ms) (in_its_range (at.Label i label.Kind) kind_word (label_place ms label.Kind) e.0) e.1;
     }
 
-entries-in_range : (i : ℕ) (ds : List Data) → entries_fault i ds ≡ None → AllByRecursion IsEntryInRange (map (λ d. entry_in_table (table_of d)) ds)
+entries-in_range : (i : ℕ) (ds : List Data)
+    → entries_fault i ds ≡ None → AllByRecursion IsEntryInRange (map (λ d. entry_in_table (table_of d)) ds)
 entries-in_range i [] h = tt
 entries-in_range i (d ∷ ds) h =
     let p = first_or_none (entry_fault i (table_of d)) _ h in
@@ -109,7 +118,8 @@ array-in_range : (o : Option Data) → array_fault o ≡ None → AllByRecursion
 array-in_range None h = tt
 array-in_range (Some d) h = tables (is_array_of is_table d) h
   where
-    tables : (b : Bool) → (if b then entries_fault 0 (elements_of d) else Some (WrongKind at.Labels)) ≡ None → AllByRecursion IsEntryInRange (entries_in (Some d))
+    tables : (b : Bool) → (if b then entries_fault 0 (elements_of d) else Some (WrongKind at.Labels)) ≡ None
+        → AllByRecursion IsEntryInRange (entries_in (Some d))
     tables true h = entries-in_range 0 (elements_of d) h
     tables false h = absurd (cc)
 
@@ -117,30 +127,37 @@ array-in_range (Some d) h = tables (is_array_of is_table d) h
 pub entries_of-in_range : (doc : Members) → labels_fault doc ≡ None → All IsEntryInRange (labels_of doc)
 entries_of-in_range doc h = All-from_recursion IsEntryInRange (labels_of doc) (array-in_range (get_member (codes "label") doc) h)
 
-found_step : (b : Bool) (x e : LabelEntry) (rest : Option LabelEntry) → IsEntryInRange x → (rest ≡ Some e → IsEntryInRange e) → cond b (Some x) rest ≡ Some e → IsEntryInRange e
+found_step : (b : Bool) (x e : LabelEntry) (rest : Option LabelEntry)
+    → IsEntryInRange x → (rest ≡ Some e → IsEntryInRange e) → cond b (Some x) rest ≡ Some e → IsEntryInRange e
 found_step true x e rest here later h = let same : x ≡ e = cc in rw (← same) here
 found_step false x e rest here later h = later h
 
-found-in_range : (test : LabelEntry → Bool) (es : List LabelEntry) (e : LabelEntry) → AllByRecursion IsEntryInRange es → find test es ≡ Some e → IsEntryInRange e
+found-in_range : (test : LabelEntry → Bool) (es : List LabelEntry) (e : LabelEntry) → AllByRecursion IsEntryInRange es
+    → find test es ≡ Some e → IsEntryInRange e
 found-in_range test [] e all h = absurd (cc)
 found-in_range test (x ∷ xs) e all h = found_step (test x) x e (find test xs) all.0 (found-in_range test xs e all.1) h
 
 -- the entry of a profile that a search finds has its numbers in their ranges
-entry_of-in_range : (contents : Contents) (test : LabelEntry → Bool) (e : LabelEntry) → IsProfile contents → find test contents.labels ≡ Some e → IsKindInRange e.kind
+entry_of-in_range : (contents : Contents) (test : LabelEntry → Bool) (e : LabelEntry) → IsProfile contents
+    → find test contents.labels ≡ Some e → IsKindInRange e.kind
 entry_of-in_range contents test e p found =
     let doc = p.0 in
     let sections = first_or_none (first_section_fault doc section_keys) _ p.1 in
     let labels = first_or_none (labels_fault doc) _ sections.1 in
-    (found-in_range test (labels_of doc) e (array-in_range (get_member (codes "label") doc) labels.0) (rw (← (ap (λ (c : Contents). c.labels) p.2)) found)).numbers
+    (found-in_range test (labels_of doc) e (array-in_range (get_member (codes "label") doc) labels.0)
+    (rw (← (ap (λ (c : Contents). c.labels) p.2)) found)).numbers
 
 -- the same, of an entry that is lent
-lent : {X : Type 0} (now : X → LabelEntry) (o : Option X) → IfSome (option_map now o) (λ e. IsKindInRange e.kind) → IfSome o (λ x. IsKindInRange (now x).kind)
+lent : {X : Type 0} (now : X → LabelEntry) (o : Option X) → IfSome (option_map now o) (λ e. IsKindInRange e.kind)
+    → IfSome o (λ x. IsKindInRange (now x).kind)
 lent now None h = tt
 lent now (Some x) h = h
 
-found_all : (contents : Contents) (test : LabelEntry → Bool) (o : Option LabelEntry) → IsProfile contents → o ≡ find test contents.labels → IfSome o (λ e. IsKindInRange e.kind)
+found_all : (contents : Contents) (test : LabelEntry → Bool) (o : Option LabelEntry) → IsProfile contents → o ≡ find test contents.labels
+    → IfSome o (λ e. IsKindInRange e.kind)
 found_all contents test None p found = tt
 found_all contents test (Some e) p found = entry_of-in_range contents test e p (sym found)
 
-pub lent-in_range : {X : Type 0} (now : X → LabelEntry) (contents : Contents) (test : LabelEntry → Bool) (o : Option X) → IsProfile contents → option_map now o ≡ find test contents.labels → IfSome o (λ x. IsKindInRange (now x).kind)
+pub lent-in_range : {X : Type 0} (now : X → LabelEntry) (contents : Contents) (test : LabelEntry → Bool) (o : Option X) → IsProfile contents
+    → option_map now o ≡ find test contents.labels → IfSome o (λ x. IsKindInRange (now x).kind)
 lent-in_range now contents test o p found = lent now o (found_all contents test (option_map now o) p found)

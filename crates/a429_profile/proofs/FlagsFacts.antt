@@ -11,10 +11,12 @@ use Rattle.a429_profile.specs.Flags.{text_with, both_texts}
 -- a text, of which the last two bytes are written at once
 pub text_with-is : (bit : ℕ) (f : Flag) → bit < 10 → codes " " ++ f.name ++ (61 ∷ (48 + bit) ∷ []) ≡ text_with bit f
 text_with-is bit f small =
-    ap (λ t. codes " " ++ f.name ++ (61 ∷ t)) (sym (decimal_digit bit small)) ∙ sym (append_assoc (codes " " ++ f.name) (codes "=") (decimal bit))
+    ap (λ t. codes " " ++ f.name ++ (61 ∷ t)) (sym (decimal_digit bit small))
+    ∙ sym (append_assoc (codes " " ++ f.name) (codes "=") (decimal bit))
 
 -- both, one after the other
-pub both_texts-is : (old one both : List ℕ) (f : Flag) → one ≡ old ++ (codes " " ++ f.name ++ (61 ∷ 48 ∷ [])) → both ≡ one ++ (codes " " ++ f.name ++ (61 ∷ 49 ∷ [])) → both ≡ old ++ both_texts f
+pub both_texts-is : (old one both : List ℕ) (f : Flag) → one ≡ old ++ (codes " " ++ f.name ++ (61 ∷ 48 ∷ []))
+    → both ≡ one ++ (codes " " ++ f.name ++ (61 ∷ 49 ∷ [])) → both ≡ old ++ both_texts f
 both_texts-is old one both f e1 e2 =
     let high = codes " " ++ f.name ++ (61 ∷ 49 ∷ []) in
     e2 ∙ ap (λ t. t ++ high) e1 ∙ append_assoc old (codes " " ++ f.name ++ (61 ∷ 48 ∷ [])) high
@@ -22,21 +24,25 @@ both_texts-is old one both f e1 e2 =
 
 -- how long a text is
 pub length-text_with : (bit : ℕ) (f : Flag) → bit < 10 → length (text_with bit f) ≡ length f.name + 3
-length-text_with bit f small = omega (arith, ap length (text_with-is bit f small), length-append (codes " " ++ f.name) (61 ∷ (48 + bit) ∷ []))
+length-text_with bit f small =
+    omega (arith, ap length (text_with-is bit f small), length-append (codes " " ++ f.name) (61 ∷ (48 + bit) ∷ []))
 
 -- the texts of the flags from a place on are those of the flag there, and then the others
-pub both_texts-rest : (fs : List Flag) (i : ℕ) (f : Flag) → i < length fs → f ≡ get_or fs i f → flat_map both_texts (drop i fs) ≡ both_texts f ++ flat_map both_texts (drop (i + 1) fs)
+pub both_texts-rest : (fs : List Flag) (i : ℕ) (f : Flag)
+    → i < length fs → f ≡ get_or fs i f → flat_map both_texts (drop i fs) ≡ both_texts f ++ flat_map both_texts (drop (i + 1) fs)
 both_texts-rest fs i f h found = ap (flat_map both_texts) (drop_more fs i f h ∙ ap (λ x. x ∷ drop (i + 1) fs) (sym found))
 
 -- of a list that begins with both texts of a flag: there is room for them, where they are, and what follows them
-pub both_texts-fit : (f : Flag) (all : List ℕ) → take (length (both_texts f)) all ≡ both_texts f → (length f.name + 3) + (length f.name + 3) ≤ length all
+pub both_texts-fit : (f : Flag) (all : List ℕ)
+    → take (length (both_texts f)) all ≡ both_texts f → (length f.name + 3) + (length f.name + 3) ≤ length all
 both_texts-fit f all h =
     let low = length-text_with 0 f (omega arith) in
     let high = length-text_with 1 f (omega arith) in
     omega (arith, ap length h, length-take (length (both_texts f)) all, length-append (text_with 0 f) (text_with 1 f), low, high)
 
 pub both_texts-split : (f : Flag) (all : List ℕ) (len : ℕ) → len ≡ length f.name + 3 → take (length (both_texts f)) all ≡ both_texts f →
-    (take len all ≡ text_with 0 f) × (take len (drop len all) ≡ text_with 1 f) × (drop len (drop len all) ≡ drop (length (both_texts f)) all)
+    (take len all ≡ text_with 0 f) × (take len (drop len all) ≡ text_with 1 f)
+    × (drop len (drop len all) ≡ drop (length (both_texts f)) all)
 both_texts-split f all len is h =
     let low = text_with 0 f in
     let high = text_with 1 f in

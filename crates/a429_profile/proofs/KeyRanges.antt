@@ -25,9 +25,11 @@ in_its_range k rule no_section h = absurd (cc)
 in_its_range k rule (value d) h = passes (has_kind rule d) (is_in_range rule d) _ _ h
 
 -- what holds where a test does holds of all where the test does of all
-pub each : {X : Type 0} (test : X → Bool) (P : X → Type 0) → ((x : X) → test x ≡ true → P x) → (xs : List X) → list_all test xs ≡ true → All P xs
+pub each : {X : Type 0} (test : X → Bool) (P : X → Type 0) → ((x : X) → test x ≡ true → P x) → (xs : List X) → list_all test xs ≡ true
+    → All P xs
 each test P holds [] h = All-nil P
-each test P holds (x ∷ xs) h = let parts = and_parts (test x) (list_all test xs) h in All-cons P x xs (holds x parts.0) (each test P holds xs parts.1)
+each test P holds (x ∷ xs) h =
+    let parts = and_parts (test x) (list_all test xs) h in All-cons P x xs (holds x parts.0) (each test P holds xs parts.1)
 
 -- ---- numbers
 
@@ -35,7 +37,8 @@ pub between : (low high : ℕ) (z : ℤ) → is_between low high z ≡ true → 
 between low high (pos n) h = let p = and_parts (nat_le low n) (nat_le n high) h in (leb-true low n p.0, leb-true n high p.1)
 between low high (negsuc n) h = absurd (cc)
 
-pub number_place : (k : Key) (low high : ℕ) (p : Place) → place_fault k (number low high) p ≡ None → (low ≤ number_of_value (value_at_place p)) × (number_of_value (value_at_place p) ≤ high)
+pub number_place : (k : Key) (low high : ℕ) (p : Place)
+    → place_fault k (number low high) p ≡ None → (low ≤ number_of_value (value_at_place p)) × (number_of_value (value_at_place p) ≤ high)
 number_place k low high p h = between low high (integer_of_value (value_at_place p)) (in_its_range k (number low high) p h)
 
 octal_sum : (a b c : ℕ) → a ≤ 51 → b ≤ 55 → c ≤ 55 → 64 * (a - 48) + 8 * (b - 48) + (c - 48) ≤ 255
@@ -53,7 +56,8 @@ pub octal_place : (k : Key) (p : Place) → place_fault k octal p ≡ None → o
 octal_place k p h = octal_text (text_of_value (value_at_place p)) (in_its_range k octal p h)
 
 -- an SDI may be missing
-pub sdi_place : (k : Key) (p : Place) → fault_unless_missing true (place_fault k (number 0 3) p) p ≡ None → IfSome (number_at_place p) (λ s. s ≤ 3)
+pub sdi_place : (k : Key) (p : Place)
+    → fault_unless_missing true (place_fault k (number 0 3) p) p ≡ None → IfSome (number_at_place p) (λ s. s ≤ 3)
 sdi_place k nothing h = tt
 sdi_place k no_section h = tt
 sdi_place k (value d) h = (number_place k 0 3 (value d) h).1
@@ -62,13 +66,16 @@ sdi_place k (value d) h = (number_place k 0 3 (value d) h).1
 
 all_between : (high : ℕ) (ds : List Data) → list_all (is_number_between 0 high) ds ≡ true → All (λ n. n ≤ high) (map number_of_value ds)
 all_between high ds h =
-    All-map (λ n. n ≤ high) number_of_value ds (each (is_number_between 0 high) (λ d. number_of_value d ≤ high) (λ d is. (between 0 high (integer_of_value d) is).1) ds h)
+    All-map (λ n. n ≤ high) number_of_value ds
+    (each (is_number_between 0 high) (λ d. number_of_value d ≤ high) (λ d is. (between 0 high (integer_of_value d) is).1) ds h)
 
-pub numbers_place : (k : Key) (high : ℕ) (p : Place) → place_fault k (numbers 0 high) p ≡ None → All (λ n. n ≤ high) (map number_of_value (elements_of (value_at_place p)))
+pub numbers_place : (k : Key) (high : ℕ) (p : Place)
+    → place_fault k (numbers 0 high) p ≡ None → All (λ n. n ≤ high) (map number_of_value (elements_of (value_at_place p)))
 numbers_place k high p h = all_between high (elements_of (value_at_place p)) (in_its_range k (numbers 0 high) p h)
 
 pub four_place : (k : Key) (high : ℕ) (p : Place) → place_fault k (four_numbers 0 high) p ≡ None →
-    (length (map number_of_value (elements_of (value_at_place p))) ≡ 4) × All (λ n. n ≤ high) (map number_of_value (elements_of (value_at_place p)))
+    (length (map number_of_value (elements_of (value_at_place p))) ≡ 4)
+    × All (λ n. n ≤ high) (map number_of_value (elements_of (value_at_place p)))
 four_place k high p h =
     let ds : List Data = elements_of (value_at_place p) in
     let parts = and_parts (nat_eq (length ds) 4) _ (in_its_range k (four_numbers 0 high) p h) in
@@ -85,5 +92,6 @@ printable_text least most t h =
     let q = and_parts (nat_le least (length t)) (nat_le (length t) most) p.0 in
     (leb-true least (length t) q.0, leb-true (length t) most q.1, each is_printable IsPrintable printable_code t p.1)
 
-pub text_place : (k : Key) (least most : ℕ) (p : Place) → place_fault k (printable least most) p ≡ None → IsTextOf least most (text_of_value (value_at_place p))
+pub text_place : (k : Key) (least most : ℕ) (p : Place)
+    → place_fault k (printable least most) p ≡ None → IsTextOf least most (text_of_value (value_at_place p))
 text_place k least most p h = printable_text least most (text_of_value (value_at_place p)) (in_its_range k (printable least most) p h)

@@ -10,7 +10,8 @@ use Rattle.a429_profile.specs.declared.fault.ProfileFault.TheVariants.{WrongKind
 use Rattle.a429_profile.specs.Value.{elements_of, is_table}
 use Rattle.a429_profile.specs.Labels.{array_fault, entries_fault, entries_in, entry_in_table, table_of}
 
-pub array_fault-tables : (d : Data) (vs : List Value) (b : Bool) → true ≡ is_some (as_array d) → elements_of d ≡ map view vs → b ≡ list_all (λ v. is_table (view v)) vs
+pub array_fault-tables : (d : Data) (vs : List Value) (b : Bool)
+    → true ≡ is_some (as_array d) → elements_of d ≡ map view vs → b ≡ list_all (λ v. is_table (view v)) vs
     → array_fault (Some d) ≡ (if b then entries_fault 0 (map view vs) else Some (WrongKind Labels))
 array_fault-tables d vs b has e tables = rw (← has, e, list_all-map is_table view vs, ← tables) refl
 
@@ -18,5 +19,6 @@ map-tables : (vs : List Value) → map (λ d. entry_in_table (table_of d)) (map 
 map-tables [] = refl
 map-tables (v ∷ vs) = ap (λ es. entry_in_table (table_of (view v)) ∷ es) (map-tables vs)
 
-pub entries_in-tables : (d : Data) (vs : List Value) → elements_of d ≡ map view vs → entries_in (Some d) ≡ map (λ v. entry_in_table (table_of (view v))) vs
+pub entries_in-tables : (d : Data) (vs : List Value)
+    → elements_of d ≡ map view vs → entries_in (Some d) ≡ map (λ v. entry_in_table (table_of (view v))) vs
 entries_in-tables d vs e = rw e (map-tables vs)

@@ -32,11 +32,13 @@ other_key false a l s o e h = refl
 other_key true a l s o e h = let meet = keys_equal a l s o (sym e) in absurd (cc)
 
 -- an entry that meets none of those kept goes last
-pub insert_entry-apart : (e : LabelEntry) (ks : List Kept) → AreKeyed ks → list_any (λ o. entries_meet o e) (entries_of ks) ≡ false → insert_entry key_eq ks (label_and_sdi e) e ≡ ks ++ (label_and_sdi e, e) ∷ []
+pub insert_entry-apart : (e : LabelEntry) (ks : List Kept) → AreKeyed ks → list_any (λ o. entries_meet o e) (entries_of ks) ≡ false
+    → insert_entry key_eq ks (label_and_sdi e) e ≡ ks ++ (label_and_sdi e, e) ∷ []
 insert_entry-apart e [] keyed h = refl
 insert_entry-apart e (k ∷ ks) keyed h =
     let parts = or_parts (entries_meet k.1 e) (list_any (λ o. entries_meet o e) (entries_of ks)) h in
-    let other : key_eq (label_and_sdi e) k.0 ≡ false = ap (key_eq (label_and_sdi e)) keyed.0 ∙ other_key _ e.label k.1.label e.sdi k.1.sdi refl parts.0 in
+    let other : key_eq (label_and_sdi e) k.0 ≡ false =
+    ap (key_eq (label_and_sdi e)) keyed.0 ∙ other_key _ e.label k.1.label e.sdi k.1.sdi refl parts.0 in
     rw other (ap (λ es. k ∷ es) (insert_entry-apart e ks keyed.1 parts.1))
 
 pub entries_of-end : (ks : List Kept) (k : Kept) → entries_of (ks ++ k ∷ []) ≡ entries_of ks ++ k.1 ∷ []

@@ -13,7 +13,8 @@ met_by_open None = refl
 met_by_open (Some s) = refl
 
 -- where an entry is for a word, one that does not meet it is not
-other_word : (label sdi a b : ℕ) (s o : Option ℕ) → ((label == a) && sdis_meet (Some sdi) s) ≡ true → ((a == b) && sdis_meet s o) ≡ false → ((label == b) && sdis_meet (Some sdi) o) ≡ false
+other_word : (label sdi a b : ℕ) (s o : Option ℕ) → ((label == a) && sdis_meet (Some sdi) s) ≡ true → ((a == b) && sdis_meet s o) ≡ false
+    → ((label == b) && sdis_meet (Some sdi) o) ≡ false
 other_word label sdi a b None o here apart =
     let p = and_parts (label == a) (sdis_meet (Some sdi) None) here in
     let q = and_true_false (a == b) (sdis_meet None o) (met_by_open o) apart in
@@ -22,9 +23,11 @@ other_word label sdi a b (Some s) o here apart =
     let p = and_parts (label == a) (sdi == s) here in
     rw (eqb-true label a p.0, eqb-true sdi s p.1) apart
 
-none_for : (label sdi : ℕ) (e : LabelEntry) (os : List LabelEntry) → is_for label sdi e ≡ true → MeetsNone entries_meet e os → filter (is_for label sdi) os ≡ []
+none_for : (label sdi : ℕ) (e : LabelEntry) (os : List LabelEntry)
+    → is_for label sdi e ≡ true → MeetsNone entries_meet e os → filter (is_for label sdi) os ≡ []
 none_for label sdi e [] here meets = refl
-none_for label sdi e (o ∷ os) here meets = rw (other_word label sdi e.label o.label e.sdi o.sdi here meets.0) (none_for label sdi e os here meets.1)
+none_for label sdi e (o ∷ os) here meets =
+    rw (other_word label sdi e.label o.label e.sdi o.sdi here meets.0) (none_for label sdi e os here meets.1)
 
 step : (b : Bool) (e : LabelEntry) (rest : List LabelEntry) → (b ≡ true → rest ≡ []) → length rest ≤ 1 → length (cond b (e ∷ rest) rest) ≤ 1
 step true e rest none h = rw (none refl) (omega arith)

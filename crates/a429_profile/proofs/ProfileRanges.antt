@@ -25,7 +25,8 @@ faultless doc (k ∷ ks) h = let p = first_or_none (section_fault doc k) (first_
 
 in_range_of : (doc : Members) → fault_of doc ≡ None → AreInRange (contents_of doc)
 in_range_of doc h =
-    let faults = first_or_none (first_section_fault doc section_keys) (first_or (labels_fault doc) (first_clash (codes_of doc) (labels_of doc))) h in
+    let faults =
+    first_or_none (first_section_fault doc section_keys) (first_or (labels_fault doc) (first_clash (codes_of doc) (labels_of doc))) h in
     let entries = first_or_none (labels_fault doc) (first_clash (codes_of doc) (labels_of doc)) faults.1 in
     let transfer = faultless doc section_keys faults.0 in
     let types = transfer.1.1.1.1.1 in

@@ -48,10 +48,13 @@ some_times b k some = mul-pos (omega arith) some
 -- a factor above zero is dropped
 same_times : (x y : ℤ) (k : ℕ) → 0 < k → x *ℤ pos k ≡ y *ℤ pos k → x ≡ y
 same_times (pos a) (pos b) k some h = ap pos (cancel a b k some (ap natural (sym (pos-*ℤ-pos a k) ∙ h ∙ pos-*ℤ-pos b k)))
-same_times (pos a) (negsuc b) k some h = absurd (not_minus (a * k) (suc b * k) (some_times b k some) (sym (pos-*ℤ-pos a k) ∙ h ∙ negsuc-*ℤ-pos b k))
-same_times (negsuc a) (pos b) k some h = absurd (not_minus (b * k) (suc a * k) (some_times a k some) (sym (pos-*ℤ-pos b k) ∙ sym h ∙ negsuc-*ℤ-pos a k))
+same_times (pos a) (negsuc b) k some h =
+    absurd (not_minus (a * k) (suc b * k) (some_times b k some) (sym (pos-*ℤ-pos a k) ∙ h ∙ negsuc-*ℤ-pos b k))
+same_times (negsuc a) (pos b) k some h =
+    absurd (not_minus (b * k) (suc a * k) (some_times a k some) (sym (pos-*ℤ-pos b k) ∙ sym h ∙ negsuc-*ℤ-pos a k))
 same_times (negsuc a) (negsuc b) k some h =
-    ap (λ n. neg_ℤ (pos n)) (cancel (suc a) (suc b) k some (same_minus (suc a * k) (suc b * k) (sym (negsuc-*ℤ-pos a k) ∙ h ∙ negsuc-*ℤ-pos b k)))
+    ap (λ n. neg_ℤ (pos n))
+    (cancel (suc a) (suc b) k some (same_minus (suc a * k) (suc b * k) (sym (negsuc-*ℤ-pos a k) ∙ h ∙ negsuc-*ℤ-pos b k)))
 
 -- ---- values and places
 
@@ -66,7 +69,9 @@ one_bnr : (w bits range decimals : ℕ) (u v : Fixed) → IsBnrValue w bits rang
 one_bnr w bits range decimals u v h k =
     let places : u.decimals ≡ v.decimals = h.1 ∙ sym k.1 in
     let units : 0 < 2 ^ bits * 10 ^ decimals = mul-pos (pow_pos bits) (pow-10_pos decimals) in
-    let number : u.number ≡ v.number = same_times u.number v.number (2 ^ bits * 10 ^ decimals) units (h.0 ∙ ap (λ d. raw_of w bits *ℤ pos (range * 10 ^ d)) places ∙ sym k.0) in
+    let number : u.number ≡ v.number =
+    same_times u.number v.number (2 ^ bits * 10 ^ decimals) units
+    (h.0 ∙ ap (λ d. raw_of w bits *ℤ pos (range * 10 ^ d)) places ∙ sym k.0) in
     made u v number places
 
 one_value : (kind : Kind) (w : ℕ) (u v : Fixed) → IsValue kind w u → IsValue kind w v → u ≡ v
@@ -158,10 +163,14 @@ module _ (w : ℕ) (e f : Bor LabelEntry) (same : e.now ≡ f.now) where
   places a b is = subst (λ x. ShowSame (shown.BadDigit e a) (shown.BadDigit f x)) is (same_digit same)
 
   values : (u v : Fixed) (a b : Bool) → u ≡ v → a ≡ b → ShowSame (shown.Value e u a) (shown.Value f v b)
-  values u v a b is too = subst (λ x. ShowSame (shown.Value e u a) (shown.Value f x b)) is (subst (λ x. ShowSame (shown.Value e u a) (shown.Value f u x)) too (same_value same))
+  values u v a b is too =
+      subst (λ x. ShowSame (shown.Value e u a) (shown.Value f x b)) is
+      (subst (λ x. ShowSame (shown.Value e u a) (shown.Value f u x)) too (same_value same))
 
   fields : (m n : ℕ) (a b : Bool) → m ≡ n → a ≡ b → ShowSame (shown.Bits e m a) (shown.Bits f n b)
-  fields m n a b is too = subst (λ x. ShowSame (shown.Bits e m a) (shown.Bits f x b)) is (subst (λ x. ShowSame (shown.Bits e m a) (shown.Bits f m x)) too (same_bits same))
+  fields m n a b is too =
+      subst (λ x. ShowSame (shown.Bits e m a) (shown.Bits f x b)) is
+      (subst (λ x. ShowSame (shown.Bits e m a) (shown.Bits f m x)) too (same_bits same))
 
 -- ---- what is shown of one word, twice
 
@@ -186,42 +195,60 @@ module _ (p : Contents) (w : ℕ) where
   one_none (shown.Value f v is_test) h k = absurd (no_entry p w f.now h.1 k.0)
   one_none (shown.Bits f field is_test) h k = absurd (no_entry p w f.now h.1 k.0)
 
-  one_status : (e : Bor LabelEntry) (status : Status) (t : Shown) → IsShown p w (shown.Status e status) → IsShown p w t → ShowSame (shown.Status e status) t
+  one_status : (e : Bor LabelEntry) (status : Status) (t : Shown)
+      → IsShown p w (shown.Status e status) → IsShown p w t → ShowSame (shown.Status e status) t
   one_status e status shown.BadParity h k = absurd (k h.0.0)
   one_status e status shown.NoEntry h k = absurd (no_entry p w e.now k.1 h.0)
   one_status e status (shown.Status f other) h k =
       statuses w e f (one_entry p w e.now f.now h.0 k.0) status other
-      (status_in (sense_of e.now.kind (ssm_of w)) status other h.1 (of_entry (λ x. sense_of x (ssm_of w) ≡ NoValue other) e.now f.now h.0 k.0 k.1))
-  one_status e status (shown.BadDigit f place) h k = absurd (no_value e.now.kind w k.1.0 status (of_entry (λ x. HasValue x w k.1.0) e.now f.now h.0 k.0 k.1.1) h.1)
-  one_status e status (shown.Value f v is_test) h k = absurd (no_value e.now.kind w is_test status (of_entry (λ x. HasValue x w is_test) e.now f.now h.0 k.0 k.1) h.1)
-  one_status e status (shown.Bits f field is_test) h k = absurd (no_value e.now.kind w is_test status (of_entry (λ x. HasValue x w is_test) e.now f.now h.0 k.0 k.1) h.1)
+      (status_in (sense_of e.now.kind (ssm_of w)) status other h.1
+      (of_entry (λ x. sense_of x (ssm_of w) ≡ NoValue other) e.now f.now h.0 k.0 k.1))
+  one_status e status (shown.BadDigit f place) h k =
+      absurd (no_value e.now.kind w k.1.0 status (of_entry (λ x. HasValue x w k.1.0) e.now f.now h.0 k.0 k.1.1) h.1)
+  one_status e status (shown.Value f v is_test) h k =
+      absurd (no_value e.now.kind w is_test status (of_entry (λ x. HasValue x w is_test) e.now f.now h.0 k.0 k.1) h.1)
+  one_status e status (shown.Bits f field is_test) h k =
+      absurd (no_value e.now.kind w is_test status (of_entry (λ x. HasValue x w is_test) e.now f.now h.0 k.0 k.1) h.1)
 
-  one_digit : (e : Bor LabelEntry) (place : ℕ) (t : Shown) → IsShown p w (shown.BadDigit e place) → IsShown p w t → ShowSame (shown.BadDigit e place) t
+  one_digit : (e : Bor LabelEntry) (place : ℕ) (t : Shown)
+      → IsShown p w (shown.BadDigit e place) → IsShown p w t → ShowSame (shown.BadDigit e place) t
   one_digit e place shown.BadParity h k = absurd (k h.0.0)
   one_digit e place shown.NoEntry h k = absurd (no_entry p w e.now k.1 h.0)
-  one_digit e place (shown.Status f status) h k = absurd (no_value e.now.kind w h.1.0 status h.1.1 (of_entry (λ x. sense_of x (ssm_of w) ≡ NoValue status) e.now f.now h.0 k.0 k.1))
+  one_digit e place (shown.Status f status) h k =
+      absurd (no_value e.now.kind w h.1.0 status h.1.1 (of_entry (λ x. sense_of x (ssm_of w) ≡ NoValue status) e.now f.now h.0 k.0 k.1))
   one_digit e place (shown.BadDigit f other) h k =
-      places w e f (one_entry p w e.now f.now h.0 k.0) place other (one_place e.now.kind w place other h.2 (of_entry (λ x. IsBadPlace x w other) e.now f.now h.0 k.0 k.2))
-  one_digit e place (shown.Value f v is_test) h k = absurd (no_bad_place e.now.kind w place v h.2 (of_entry (λ x. IsValue x w v) e.now f.now h.0 k.0 k.2))
-  one_digit e place (shown.Bits f field is_test) h k = absurd (no_bad_bits e.now.kind w place h.2 (of_entry IsDiscrete e.now f.now h.0 k.0 k.2))
+      places w e f (one_entry p w e.now f.now h.0 k.0) place other
+      (one_place e.now.kind w place other h.2 (of_entry (λ x. IsBadPlace x w other) e.now f.now h.0 k.0 k.2))
+  one_digit e place (shown.Value f v is_test) h k =
+      absurd (no_bad_place e.now.kind w place v h.2 (of_entry (λ x. IsValue x w v) e.now f.now h.0 k.0 k.2))
+  one_digit e place (shown.Bits f field is_test) h k =
+      absurd (no_bad_bits e.now.kind w place h.2 (of_entry IsDiscrete e.now f.now h.0 k.0 k.2))
 
-  one_number : (e : Bor LabelEntry) (u : Fixed) (is_test : Bool) (t : Shown) → IsShown p w (shown.Value e u is_test) → IsShown p w t → ShowSame (shown.Value e u is_test) t
+  one_number : (e : Bor LabelEntry) (u : Fixed) (is_test : Bool) (t : Shown)
+      → IsShown p w (shown.Value e u is_test) → IsShown p w t → ShowSame (shown.Value e u is_test) t
   one_number e u is_test shown.BadParity h k = absurd (k h.0.0)
   one_number e u is_test shown.NoEntry h k = absurd (no_entry p w e.now k.1 h.0)
-  one_number e u is_test (shown.Status f status) h k = absurd (no_value e.now.kind w is_test status h.1 (of_entry (λ x. sense_of x (ssm_of w) ≡ NoValue status) e.now f.now h.0 k.0 k.1))
-  one_number e u is_test (shown.BadDigit f place) h k = absurd (no_bad_place e.now.kind w place u (of_entry (λ x. IsBadPlace x w place) e.now f.now h.0 k.0 k.2) h.2)
+  one_number e u is_test (shown.Status f status) h k =
+      absurd (no_value e.now.kind w is_test status h.1 (of_entry (λ x. sense_of x (ssm_of w) ≡ NoValue status) e.now f.now h.0 k.0 k.1))
+  one_number e u is_test (shown.BadDigit f place) h k =
+      absurd (no_bad_place e.now.kind w place u (of_entry (λ x. IsBadPlace x w place) e.now f.now h.0 k.0 k.2) h.2)
   one_number e u is_test (shown.Value f v other) h k =
       values w e f (one_entry p w e.now f.now h.0 k.0) u v is_test other
       (one_value e.now.kind w u v h.2 (of_entry (λ x. IsValue x w v) e.now f.now h.0 k.0 k.2))
       (one_test e.now.kind w is_test other h.1 (of_entry (λ x. HasValue x w other) e.now f.now h.0 k.0 k.1))
-  one_number e u is_test (shown.Bits f field other) h k = absurd (no_value_bits e.now.kind w u h.2 (of_entry IsDiscrete e.now f.now h.0 k.0 k.2))
+  one_number e u is_test (shown.Bits f field other) h k =
+      absurd (no_value_bits e.now.kind w u h.2 (of_entry IsDiscrete e.now f.now h.0 k.0 k.2))
 
-  one_field : (e : Bor LabelEntry) (field : ℕ) (is_test : Bool) (t : Shown) → IsShown p w (shown.Bits e field is_test) → IsShown p w t → ShowSame (shown.Bits e field is_test) t
+  one_field : (e : Bor LabelEntry) (field : ℕ) (is_test : Bool) (t : Shown)
+      → IsShown p w (shown.Bits e field is_test) → IsShown p w t → ShowSame (shown.Bits e field is_test) t
   one_field e field is_test shown.BadParity h k = absurd (k h.0.0)
   one_field e field is_test shown.NoEntry h k = absurd (no_entry p w e.now k.1 h.0)
-  one_field e field is_test (shown.Status f status) h k = absurd (no_value e.now.kind w is_test status h.1 (of_entry (λ x. sense_of x (ssm_of w) ≡ NoValue status) e.now f.now h.0 k.0 k.1))
-  one_field e field is_test (shown.BadDigit f place) h k = absurd (no_bad_bits e.now.kind w place (of_entry (λ x. IsBadPlace x w place) e.now f.now h.0 k.0 k.2) h.2)
-  one_field e field is_test (shown.Value f v other) h k = absurd (no_value_bits e.now.kind w v (of_entry (λ x. IsValue x w v) e.now f.now h.0 k.0 k.2) h.2)
+  one_field e field is_test (shown.Status f status) h k =
+      absurd (no_value e.now.kind w is_test status h.1 (of_entry (λ x. sense_of x (ssm_of w) ≡ NoValue status) e.now f.now h.0 k.0 k.1))
+  one_field e field is_test (shown.BadDigit f place) h k =
+      absurd (no_bad_bits e.now.kind w place (of_entry (λ x. IsBadPlace x w place) e.now f.now h.0 k.0 k.2) h.2)
+  one_field e field is_test (shown.Value f v other) h k =
+      absurd (no_value_bits e.now.kind w v (of_entry (λ x. IsValue x w v) e.now f.now h.0 k.0 k.2) h.2)
   one_field e field is_test (shown.Bits f other is_too) h k =
       fields w e f (one_entry p w e.now f.now h.0 k.0) field other is_test is_too (h.3 ∙ sym k.3)
       (one_test e.now.kind w is_test is_too h.1 (of_entry (λ x. HasValue x w is_too) e.now f.now h.0 k.0 k.1))

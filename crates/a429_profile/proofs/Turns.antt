@@ -16,11 +16,13 @@ next : {X : Type 0} (vs : List X) (i : ℕ) (v : X) → i < length vs → v ≡ 
 next vs i v h e = drop_more vs i v h ∙ ap (λ x. x ∷ drop (i + 1) vs) (sym e)
 
 -- a table without a fault leaves the faults of those after it
-pub entries_fault-next : (vs : List Value) (i : ℕ) (v : Value) → i < length vs → v ≡ get_or vs i v → entry_fault i (table_of (view v)) ≡ None
+pub entries_fault-next : (vs : List Value) (i : ℕ) (v : Value)
+    → i < length vs → v ≡ get_or vs i v → entry_fault i (table_of (view v)) ≡ None
     → entries_fault i (map view (drop i vs)) ≡ entries_fault (i + 1) (map view (drop (i + 1) vs))
 entries_fault-next vs i v h e ok =
     let more : suc i ≡ i + 1 = omega arith in
-    ap (λ ws. entries_fault i (map view ws)) (next vs i v h e) ∙ ap (λ f. first_or f (entries_fault (suc i) (map view (drop (i + 1) vs)))) ok
+    ap (λ ws. entries_fault i (map view ws)) (next vs i v h e)
+    ∙ ap (λ f. first_or f (entries_fault (suc i) (map view (drop (i + 1) vs)))) ok
     ∙ ap (λ n. entries_fault n (map view (drop (i + 1) vs))) more
 
 -- one more made, one fewer to make
@@ -29,7 +31,8 @@ pub map-next : {A : Type 0} (f : Value → A) (made : List A) (vs : List Value) 
 map-next f made vs i v h e = ap (λ ws. made ++ map f ws) (next vs i v h e) ∙ sym (append_assoc made (f v ∷ []) (map f (drop (i + 1) vs)))
 
 -- what holds of all holds of the next and of those after it
-pub list_all-next : (p : Value → Bool) (vs : List Value) (i : ℕ) (v : Value) → i < length vs → v ≡ get_or vs i v → list_all p (drop i vs) ≡ true → (p v ≡ true) × (list_all p (drop (i + 1) vs) ≡ true)
+pub list_all-next : (p : Value → Bool) (vs : List Value) (i : ℕ) (v : Value) → i < length vs → v ≡ get_or vs i v
+    → list_all p (drop i vs) ≡ true → (p v ≡ true) × (list_all p (drop (i + 1) vs) ≡ true)
 list_all-next p vs i v h e all = and_parts _ _ (sym (ap (list_all p) (next vs i v h e)) ∙ all)
 
 -- ---- a loop over flags that looks back at those before
@@ -38,14 +41,18 @@ once : (fs : List Flag) (i : ℕ) (f : Flag) → i < length fs → f ≡ get_or 
 once fs i f h e = ap (λ x. take i fs ++ x ∷ []) e ∙ sym (take_more fs i f h)
 
 -- a flag without a twin leaves the faults of those after it
-pub bit_after-next : (label : ℕ) (fs : List Flag) (i : ℕ) (f : Flag) → i < length fs → f ≡ get_or fs i f → list_any (λ o. o.bit == f.bit) (take i fs) ≡ false
+pub bit_after-next : (label : ℕ) (fs : List Flag) (i : ℕ) (f : Flag)
+    → i < length fs → f ≡ get_or fs i f → list_any (λ o. o.bit == f.bit) (take i fs) ≡ false
     → bit_after label (take i fs) (drop i fs) ≡ bit_after label (take (i + 1) fs) (drop (i + 1) fs)
 bit_after-next label fs i f h e none =
-    ap (bit_after label (take i fs)) (next fs i f h e) ∙ ap (λ b. if b then Some (BitClash label f.bit) else bit_after label (take i fs ++ f ∷ []) (drop (i + 1) fs)) none
+    ap (bit_after label (take i fs)) (next fs i f h e)
+    ∙ ap (λ b. if b then Some (BitClash label f.bit) else bit_after label (take i fs ++ f ∷ []) (drop (i + 1) fs)) none
     ∙ ap (λ earlier. bit_after label earlier (drop (i + 1) fs)) (once fs i f h e)
 
 -- a flag with a twin gives it
-pub bit_after-here : (label : ℕ) (fs : List Flag) (i : ℕ) (f : Flag) → i < length fs → f ≡ get_or fs i f → list_any (λ o. o.bit == f.bit) (take i fs) ≡ true
+pub bit_after-here : (label : ℕ) (fs : List Flag) (i : ℕ) (f : Flag)
+    → i < length fs → f ≡ get_or fs i f → list_any (λ o. o.bit == f.bit) (take i fs) ≡ true
     → bit_after label (take i fs) (drop i fs) ≡ Some (BitClash label f.bit)
 bit_after-here label fs i f h e twin =
-    ap (bit_after label (take i fs)) (next fs i f h e) ∙ ap (λ b. if b then Some (BitClash label f.bit) else bit_after label (take i fs ++ f ∷ []) (drop (i + 1) fs)) twin
+    ap (bit_after label (take i fs)) (next fs i f h e)
+    ∙ ap (λ b. if b then Some (BitClash label f.bit) else bit_after label (take i fs ++ f ∷ []) (drop (i + 1) fs)) twin

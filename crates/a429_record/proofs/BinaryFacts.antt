@@ -58,14 +58,17 @@ pieces-room (suc n) (suc m) (x ∷ xs) p q =
 pub pieces-first : (x : ℕ) (xs : List ℕ) → pieces_of (x ∷ xs) ≡ take entry_bytes (x ∷ xs) ∷ pieces_of (drop entry_bytes (x ∷ xs))
 pieces-first x xs =
     let short : length (drop 12 xs) ≤ length xs = grind arith in
-    ap (λ (l : List (List ℕ)). take entry_bytes (x ∷ xs) ∷ l) (pieces-room (length xs) (length (drop 12 xs)) (drop 12 xs) (omega arith) (omega arith))
+    ap (λ (l : List (List ℕ)). take entry_bytes (x ∷ xs) ∷ l)
+    (pieces-room (length xs) (length (drop 12 xs)) (drop 12 xs) (omega arith) (omega arith))
 
 -- a whole piece, and others behind it
 pub pieces-whole : (piece rest : List ℕ) → length piece ≡ entry_bytes → pieces_of (piece ++ rest) ≡ piece ∷ pieces_of rest
 pieces-whole [] rest h = absurd (omega arith)
 pieces-whole (x ∷ xs) rest h =
-    let front : take entry_bytes ((x ∷ xs) ++ rest) ≡ x ∷ xs = subst (λ (n : ℕ). take n ((x ∷ xs) ++ rest) ≡ x ∷ xs) h (take-append_seam (x ∷ xs) rest) in
-    let back : drop entry_bytes ((x ∷ xs) ++ rest) ≡ rest = subst (λ (n : ℕ). drop n ((x ∷ xs) ++ rest) ≡ rest) h (drop-append_seam (x ∷ xs) rest) in
+    let front : take entry_bytes ((x ∷ xs) ++ rest) ≡ x ∷ xs =
+    subst (λ (n : ℕ). take n ((x ∷ xs) ++ rest) ≡ x ∷ xs) h (take-append_seam (x ∷ xs) rest) in
+    let back : drop entry_bytes ((x ∷ xs) ++ rest) ≡ rest =
+    subst (λ (n : ℕ). drop n ((x ∷ xs) ++ rest) ≡ rest) h (drop-append_seam (x ∷ xs) rest) in
     pieces-first x (xs ++ rest) ∙ rw (front, back) refl
 
 -- a piece alone, which may have fewer bytes
@@ -84,7 +87,8 @@ piece_size piece e is = elim (cases_Bool (length piece == entry_bytes)) [
 ]
 
 -- its rest is that of the other pieces
-pub pieces-next : (piece rest : List ℕ) → length piece ≡ entry_bytes → piece_entries (piece ++ rest) ≡ piece_entry piece ∷ piece_entries rest
+pub pieces-next : (piece rest : List ℕ)
+    → length piece ≡ entry_bytes → piece_entries (piece ++ rest) ≡ piece_entry piece ∷ piece_entries rest
 pieces-next piece rest h = ap (map piece_entry) (pieces-whole piece rest h)
 
 pub piece_alone : (piece : List ℕ) (e : Entry) → piece_entry piece ≡ Some e → piece_entries piece ≡ Some e ∷ []
@@ -95,7 +99,8 @@ piece_alone piece e is =
 pub piece_behind : (front piece : List ℕ) (es : List Entry) (e : Entry) → piece_entries front ≡ map Some es → piece_entry piece ≡ Some e
     → piece_entries (front ++ piece) ≡ map Some (es ++ (e ∷ []))
 piece_behind front piece es e h is = from (length front) front es (omega arith) h where
-  from : (n : ℕ) (front : List ℕ) (es : List Entry) → length front ≤ n → piece_entries front ≡ map Some es → piece_entries (front ++ piece) ≡ map Some (es ++ (e ∷ []))
+  from : (n : ℕ) (front : List ℕ) (es : List Entry)
+      → length front ≤ n → piece_entries front ≡ map Some es → piece_entries (front ++ piece) ≡ map Some (es ++ (e ∷ []))
   from n [] [] few h = piece_alone piece e is
   from n [] (x ∷ es) few h = cc h
   from zero (b ∷ bs) es few h = absurd (omega arith)
@@ -107,7 +112,8 @@ piece_behind front piece es e h is = from (length front) front es (omega arith) 
       let first : piece_entry head ≡ Some x = cc split in
       let rest : piece_entries tail ≡ map Some es = cc split in
       let short : length tail ≤ n = grind arith in
-      let all : (b ∷ bs) ++ piece ≡ head ++ (tail ++ piece) = ap (λ (l : List ℕ). l ++ piece) (sym (take-append-drop entry_bytes (b ∷ bs))) ∙ append_assoc head tail piece in
+      let all : (b ∷ bs) ++ piece ≡ head ++ (tail ++ piece) =
+      ap (λ (l : List ℕ). l ++ piece) (sym (take-append-drop entry_bytes (b ∷ bs))) ∙ append_assoc head tail piece in
       ap piece_entries all ∙ pieces-next head (tail ++ piece) (piece_size head x first) ∙ rw (first, from n tail es short rest) refl
 
 -- ---- numbers

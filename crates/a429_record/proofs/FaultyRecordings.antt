@@ -22,7 +22,8 @@ Refuses n last row _ = ⊥
 
 -- ---- from the rows
 
-refused-stops : (n last : ℕ) (row : Option Entry) (following : List (Option Entry)) (f : ReadFault) → Refuses n last row f → entries_stand_for most_entries n last (row ∷ following) ≡ stops f
+refused-stops : (n last : ℕ) (row : Option Entry) (following : List (Option Entry)) (f : ReadFault)
+    → Refuses n last row f → entries_stand_for most_entries n last (row ∷ following) ≡ stops f
 refused-stops n last row following fault.Header h = absurd h
 refused-stops n last row following fault.Device h = absurd h
 refused-stops n last row following fault.OutOfMemory h = absurd h
@@ -38,15 +39,19 @@ refused-stops n last row following (fault.TimeBack i) h =
     rw (room, h.2.1, back) (ap (λ k. stops (fault.TimeBack k)) (sym h.0))
 
 -- entries come before what the rest stands for
-entries-after : (n last : ℕ) (rest : List (Option Entry)) (es : List Entry) (f : ReadFault) → n + length es ≤ most_entries → NeverFalls last es
-    → entries_stand_for most_entries (n + length es) (last_time last es) rest ≡ stops f → entries_stand_for most_entries n last (map Some es ++ rest) ≡ stops_after es f
+entries-after : (n last : ℕ) (rest : List (Option Entry)) (es : List Entry) (f : ReadFault)
+    → n + length es ≤ most_entries → NeverFalls last es
+    → entries_stand_for most_entries (n + length es) (last_time last es) rest ≡ stops f
+    → entries_stand_for most_entries n last (map Some es ++ rest) ≡ stops_after es f
 entries-after n last rest [] f few up h = let none : n + 0 ≡ n = omega arith in rw none at h
 entries-after n last rest (x ∷ es) f few up h =
     let least : last ≤ x.time = up.0 in
     let room : (n == most_entries) ≡ false = grind (arith, nat_tests) in
     let kept : nat_lt x.time last ≡ false = grind (arith, nat_tests) in
     let count : n + length (x ∷ es) ≡ n + 1 + length es = omega arith in
-    let after = entries-after (n + 1) x.time rest es f (omega arith) up.1 (subst (λ (k : ℕ). entries_stand_for most_entries k (last_time x.time es) rest ≡ stops f) count h) in
+    let after =
+    entries-after (n + 1) x.time rest es f (omega arith) up.1
+    (subst (λ (k : ℕ). entries_stand_for most_entries k (last_time x.time es) rest ≡ stops f) count h) in
     rw (room, kept, after) refl
 
 refuses : (es : List Entry) (row : Option Entry) (f : ReadFault) → IsRefusedRow es row f → Refuses (0 + length es) (last_time 0 es) row f
@@ -61,20 +66,24 @@ refuses es row (fault.TimeBack i) h =
     let last : last_time 0 es ≡ above.1.time = ap (last_time 0) above.2 ∙ last_time-push 0 above.0 above.1 in
     (omega (arith, h.0), h.1, (h.2.0, h.2.1, rw last above.3))
 
-refused-stands : (rows : List (Option Entry)) (es : List Entry) (f : ReadFault) → IsRefusedAmong rows es f → entries_stand_for most_entries 0 0 rows ≡ stops_after es f
+refused-stands : (rows : List (Option Entry)) (es : List Entry) (f : ReadFault)
+    → IsRefusedAmong rows es f → entries_stand_for most_entries 0 0 rows ≡ stops_after es f
 refused-stands rows es f w =
     let c = w.comes in
     let stop = refused-stops (0 + length es) (last_time 0 es) w.entry c.following f (refuses es w.entry f w.refused) in
-    ap (entries_stand_for most_entries 0 0) c.all ∙ entries-after 0 0 (w.entry ∷ c.following) es f (omega (arith, c.recordable.0)) c.recordable.1 stop
+    ap (entries_stand_for most_entries 0 0) c.all
+    ∙ entries-after 0 0 (w.entry ∷ c.following) es f (omega (arith, c.recordable.0)) c.recordable.1 stop
 
-following-stands : (rows : List Row) (es : List Entry) (f : ReadFault) → IsRefusedAfter rows es f → all_rows_stand_for most_entries rows ≡ stops_after es f
+following-stands : (rows : List Row) (es : List Entry) (f : ReadFault)
+    → IsRefusedAfter rows es f → all_rows_stand_for most_entries rows ≡ stops_after es f
 following-stands rows es f w = ap (all_rows_stand_for most_entries) w.all ∙ rw w.first (refused-stands (map entry_in w.more) es f w.among)
 
 headless : (rows : List Row) → HasNoHeader rows → all_rows_stand_for most_entries rows ≡ stops fault.Header
 headless [] h = refl
 headless (r ∷ rows) h = rw h refl
 
-text-faulty : (bytes : List ℕ) (es : List Entry) (f : ReadFault) → IsFaultyText bytes es f → all_rows_stand_for most_entries (rows_of bytes) ≡ stops_after es f
+text-faulty : (bytes : List ℕ) (es : List Entry) (f : ReadFault)
+    → IsFaultyText bytes es f → all_rows_stand_for most_entries (rows_of bytes) ≡ stops_after es f
 text-faulty bytes es fault.Header h = headless (rows_of bytes) h.1 ∙ ap (λ (l : List Entry). stops_after l fault.Header) (sym h.0)
 text-faulty bytes es (fault.Row i) h = following-stands (rows_of bytes) es (fault.Row i) h
 text-faulty bytes es (fault.TimeBack i) h = following-stands (rows_of bytes) es (fault.TimeBack i) h
@@ -83,10 +92,12 @@ text-faulty bytes es fault.Device h = following-stands (rows_of bytes) es fault.
 text-faulty bytes es fault.OutOfMemory h = following-stands (rows_of bytes) es fault.OutOfMemory h
 text-faulty bytes es fault.Failed h = following-stands (rows_of bytes) es fault.Failed h
 
-pub faulty_text-stands : (bytes : List ℕ) (es : List Entry) (f : ReadFault) → is_binary bytes ≡ false → IsFaultyText bytes es f → stands_for bytes ≡ stops_after es f
+pub faulty_text-stands : (bytes : List ℕ) (es : List Entry) (f : ReadFault)
+    → is_binary bytes ≡ false → IsFaultyText bytes es f → stands_for bytes ≡ stops_after es f
 faulty_text-stands bytes es f text h = text-stands bytes text ∙ text-faulty bytes es f h
 
-pub faulty_binary-stands : (bytes : List ℕ) (es : List Entry) (f : ReadFault) → IsFaultyBinary bytes es f → stands_for bytes ≡ stops_after es f
+pub faulty_binary-stands : (bytes : List ℕ) (es : List Entry) (f : ReadFault)
+    → IsFaultyBinary bytes es f → stands_for bytes ≡ stops_after es f
 faulty_binary-stands bytes es f w = rw w.all (refused-stands (piece_entries w.following) es f w.among)
 
 -- ---- and back
@@ -101,7 +112,8 @@ record StopsAt (n last : ℕ) (rows : List (Option Entry)) (es : List Entry) (f 
   refuses : Refuses (n + length es) (last_time last es) row f
 
 -- at once
-stops_here : (n last : ℕ) (r : Option Entry) (rows : List (Option Entry)) (es : List Entry) (f g : ReadFault) → n ≤ most_entries → stops g ≡ stops_after es f → Refuses n last r g
+stops_here : (n last : ℕ) (r : Option Entry) (rows : List (Option Entry)) (es : List Entry) (f g : ReadFault)
+    → n ≤ most_entries → stops g ≡ stops_after es f → Refuses n last r g
     → StopsAt n last (r ∷ rows) es f
 stops_here n last r rows es f g few e h =
     let none : [] ≡ es = ap (λ (t : Recording). t.entries) e in
@@ -109,10 +121,18 @@ stops_here n last r rows es f g few e h =
     let zero : n ≡ n + length {A = Entry} [] = omega arith in
     let moved : Refuses (n + length {A = Entry} []) last r g = subst (λ (k : ℕ). Refuses k last r g) zero h in
     let There : List Entry → Type 0 = λ l. StopsAt n last (r ∷ rows) l f in
-    subst There none (record { row = r; following = rows; all = refl; few = omega arith; up = tt; refuses = subst (λ (x : ReadFault). Refuses (n + length {A = Entry} []) last r x) same moved })
+    subst There none (record {
+      row = r;
+      following = rows;
+      all = refl;
+      few = omega arith;
+      up = tt;
+      refuses = subst (λ (x : ReadFault). Refuses (n + length {A = Entry} []) last r x) same moved;
+    })
 
 -- after an entry
-stops_later : (n last : ℕ) (r : Option Entry) (x : Entry) (rows : List (Option Entry)) (es : List Entry) (f : ReadFault) → r ≡ Some x → last ≤ x.time
+stops_later : (n last : ℕ) (r : Option Entry) (x : Entry) (rows : List (Option Entry)) (es : List Entry) (f : ReadFault)
+    → r ≡ Some x → last ≤ x.time
     → StopsAt (n + 1) x.time rows es f → StopsAt n last (r ∷ rows) (x ∷ es) f
 stops_later n last r x rows es f here least s =
     let count : n + 1 + length es ≡ n + length (x ∷ es) = omega arith in
@@ -146,13 +166,15 @@ row-stands n last r (Some x) more es f under is e = elim (cases_Bool (nat_lt x.t
   | inr kept ↦
       let on = rw kept at e in
       let least : last ≤ x.time = grind (arith, nat_tests) in
-      inr (record { entry = x; is = is; up = least; es_is = ap (λ (t : Recording). t.entries) on; rest = ap (λ (t : Recording). t.fault) on })
+      inr
+      (record { entry = x; is = is; up = least; es_is = ap (λ (t : Recording). t.entries) on; rest = ap (λ (t : Recording). t.fault) on })
 ]
 
 nothing_stops : (es : List Entry) (f : ReadFault) → whole [] ≡ stops_after es f → ⊥
 nothing_stops es f e = cc (ap (λ (t : Recording). t.fault) e)
 
-rows-stop : (n last : ℕ) (rows : List (Option Entry)) (es : List Entry) (f : ReadFault) → n ≤ most_entries → entries_stand_for most_entries n last rows ≡ stops_after es f → StopsAt n last rows es f
+rows-stop : (n last : ℕ) (rows : List (Option Entry)) (es : List Entry) (f : ReadFault)
+    → n ≤ most_entries → entries_stand_for most_entries n last rows ≡ stops_after es f → StopsAt n last rows es f
 rows-stop n last [] es f few e = absurd (nothing_stops es f e)
 rows-stop n last (r ∷ rows) es f few e = elim (cases_Bool (n == most_entries)) [
   | inl full ↦ let all : n ≡ most_entries = grind (arith, nat_tests) in stops_here n last r rows es f fault.TooMany few (rw full at e) all
@@ -162,7 +184,8 @@ rows-stop n last (r ∷ rows) es f few e = elim (cases_Bool (n == most_entries))
         | inl h ↦ stops_here n last r rows es f h.0 few h.1 h.2
         | inr w ↦
             let rest = entries_stand_for most_entries (n + 1) w.entry.time rows in
-            let same : rest ≡ stops_after rest.entries f = ap (λ (o : Option ReadFault). record { entries = rest.entries; fault = o }) w.rest in
+            let same : rest ≡ stops_after rest.entries f =
+            ap (λ (o : Option ReadFault). record { entries = rest.entries; fault = o }) w.rest in
             let later = rows-stop (n + 1) w.entry.time rows rest.entries f (omega arith) same in
             let There : List Entry → Type 0 = λ l. StopsAt n last (r ∷ rows) l f in
             subst There w.es_is (stops_later n last r w.entry rows rest.entries f w.is w.up later)
@@ -202,12 +225,15 @@ refused_among rows es f s = record {
   refused = refused es s.row f s.refuses;
 }
 
-refused_behind : (header : Row) (rows all : List Row) (es : List Entry) (f : ReadFault) → all ≡ header ∷ rows → is_header header ≡ true → StopsAt 0 0 (map entry_in rows) es f
+refused_behind : (header : Row) (rows all : List Row) (es : List Entry) (f : ReadFault)
+    → all ≡ header ∷ rows → is_header header ≡ true → StopsAt 0 0 (map entry_in rows) es f
     → IsRefusedAfter all es f
-refused_behind header rows all es f is first s = record { header = header; more = rows; all = is; first = first; among = refused_among (map entry_in rows) es f s }
+refused_behind header rows all es f is first s =
+    record { header = header; more = rows; all = is; first = first; among = refused_among (map entry_in rows) es f s }
 
 -- what stops behind the header is no fault of the header, of the device or of memory
-after_header : (bytes : List ℕ) (header : Row) (rows : List Row) (es : List Entry) (f : ReadFault) → rows_of bytes ≡ header ∷ rows → is_header header ≡ true
+after_header : (bytes : List ℕ) (header : Row) (rows : List Row) (es : List Entry) (f : ReadFault)
+    → rows_of bytes ≡ header ∷ rows → is_header header ≡ true
     → StopsAt 0 0 (map entry_in rows) es f → IsFaultyText bytes es f
 after_header bytes header rows es fault.Header is first s = absurd s.refuses
 after_header bytes header rows es fault.Device is first s = refused_behind header rows (rows_of bytes) es fault.Device is first s
@@ -215,15 +241,18 @@ after_header bytes header rows es fault.OutOfMemory is first s = refused_behind 
 after_header bytes header rows es fault.Failed is first s = refused_behind header rows (rows_of bytes) es fault.Failed is first s
 after_header bytes header rows es fault.TooMany is first s = refused_behind header rows (rows_of bytes) es fault.TooMany is first s
 after_header bytes header rows es (fault.Row i) is first s = refused_behind header rows (rows_of bytes) es (fault.Row i) is first s
-after_header bytes header rows es (fault.TimeBack i) is first s = refused_behind header rows (rows_of bytes) es (fault.TimeBack i) is first s
+after_header bytes header rows es (fault.TimeBack i) is first s =
+    refused_behind header rows (rows_of bytes) es (fault.TimeBack i) is first s
 
-no_header : (bytes : List ℕ) (rows : List Row) (es : List Entry) (f : ReadFault) → rows_of bytes ≡ rows → HasNoHeader rows → stops fault.Header ≡ stops_after es f → IsFaultyText bytes es f
+no_header : (bytes : List ℕ) (rows : List Row) (es : List Entry) (f : ReadFault)
+    → rows_of bytes ≡ rows → HasNoHeader rows → stops fault.Header ≡ stops_after es f → IsFaultyText bytes es f
 no_header bytes rows es f is none e =
     let same : fault.Header ≡ f = cc (ap (λ (t : Recording). t.fault) e) in
     let There : ReadFault → Type 0 = λ g. IsFaultyText bytes es g in
     subst There same (sym (ap (λ (t : Recording). t.entries) e), rw is none)
 
-stands-faulty : (bytes : List ℕ) (es : List Entry) (f : ReadFault) → all_rows_stand_for most_entries (rows_of bytes) ≡ stops_after es f → IsFaultyText bytes es f
+stands-faulty : (bytes : List ℕ) (es : List Entry) (f : ReadFault)
+    → all_rows_stand_for most_entries (rows_of bytes) ≡ stops_after es f → IsFaultyText bytes es f
 stands-faulty bytes es f e = from_rows (rows_of bytes) refl e where
   from_rows : (rows : List Row) → rows_of bytes ≡ rows → all_rows_stand_for most_entries rows ≡ stops_after es f → IsFaultyText bytes es f
   from_rows [] is e = no_header bytes [] es f is tt e
@@ -232,12 +261,16 @@ stands-faulty bytes es f e = from_rows (rows_of bytes) refl e where
     | inr other ↦ no_header bytes (r ∷ rows) es f is other (rw other at e)
   ]
 
-pub fault-faulty_text : (bytes : List ℕ) (es : List Entry) (f : ReadFault) → is_binary bytes ≡ false → stands_for bytes ≡ stops_after es f → IsFaultyText bytes es f
+pub fault-faulty_text : (bytes : List ℕ) (es : List Entry) (f : ReadFault)
+    → is_binary bytes ≡ false → stands_for bytes ≡ stops_after es f → IsFaultyText bytes es f
 fault-faulty_text bytes es f text e = stands-faulty bytes es f (sym (text-stands bytes text) ∙ e)
 
-pub fault-faulty_binary : (bytes : List ℕ) (es : List Entry) (f : ReadFault) → is_binary bytes ≡ true → stands_for bytes ≡ stops_after es f → IsFaultyBinary bytes es f
+pub fault-faulty_binary : (bytes : List ℕ) (es : List Entry) (f : ReadFault)
+    → is_binary bytes ≡ true → stands_for bytes ≡ stops_after es f → IsFaultyBinary bytes es f
 fault-faulty_binary bytes es f binary e = record {
   following = drop 8 bytes;
   all = magic-split bytes binary;
-  among = refused_among (piece_entries (drop 8 bytes)) es f (rows-stop 0 0 (piece_entries (drop 8 bytes)) es f (omega arith) (sym (binary-stands bytes binary) ∙ e));
+  among =
+      refused_among (piece_entries (drop 8 bytes)) es f
+      (rows-stop 0 0 (piece_entries (drop 8 bytes)) es f (omega arith) (sym (binary-stands bytes binary) ∙ e));
 }

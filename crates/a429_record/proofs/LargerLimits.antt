@@ -27,7 +27,8 @@ entries-larger m k n last (r ∷ rows) under more few = elim (cases_Bool (n == m
       (λ x. entries-larger m k (n + 1) x.time rows below more) (rw room at few))
 ]
 
-rows-larger : (m k : ℕ) (rows : List Row) → m ≤ k → (IsTooMany (all_rows_stand_for m rows) → ⊥) → all_rows_stand_for k rows ≡ all_rows_stand_for m rows
+rows-larger : (m k : ℕ) (rows : List Row)
+    → m ≤ k → (IsTooMany (all_rows_stand_for m rows) → ⊥) → all_rows_stand_for k rows ≡ all_rows_stand_for m rows
 rows-larger m k [] more few = refl
 rows-larger m k (r ∷ rows) more few = elim (cases_Bool (is_header r)) [
   | inl first ↦ rw first (entries-larger m k 0 0 (map entry_in rows) (omega arith) more (rw first at few))

@@ -94,12 +94,14 @@ word_plain w h = grind (arith, nat_tests)
 -- ---- their line
 
 ended : (fields : List (List ℕ)) (x tail : List ℕ) → IsLineEnd tail
-    → (p : Read) × (next_record default_config st.InField fields x tail ≡ Some p) × (p.0 ≡ fields ++ (x ∷ [])) × (next_record default_config p.1 [] [] p.2 ≡ None)
+    → (p : Read) × (next_record default_config st.InField fields x tail ≡ Some p) × (p.0 ≡ fields ++ (x ∷ []))
+    × (next_record default_config p.1 [] [] p.2 ≡ None)
 unfolding next_record
 ended fields x tail (inl none) = ((fields ++ (x ∷ []), st.StartRecord, []), rw none refl, refl, refl)
 ended fields x tail (inr one) = ((fields ++ (x ∷ []), st.AfterCr, []), rw one refl, refl, refl)
 
-one_record : (t x w tail : List ℕ) → 1 ≤ length t → all_digits 10 t ≡ true → 1 ≤ length x → AllHigh x → 1 ≤ length w → AllHigh w → IsLineEnd tail
+one_record : (t x w tail : List ℕ)
+    → 1 ≤ length t → all_digits 10 t ≡ true → 1 ≤ length x → AllHigh x → 1 ≤ length w → AllHigh w → IsLineEnd tail
     → records_of (t ++ (44 ∷ (x ++ (44 ∷ (w ++ tail))))) ≡ (t ∷ x ∷ w ∷ []) ∷ []
 one_record [] x w tail lt dt lx hx lw hw end = absurd (omega arith)
 one_record t [] w tail lt dt lx hx lw hw end = absurd (omega arith)
@@ -109,7 +111,8 @@ one_record (a ∷ t) (b ∷ u) (c ∷ v) tail lt dt lx hx lw hw end =
     let stop = ended ((a ∷ t) ∷ (b ∷ u) ∷ []) (c ∷ v) tail end in
     let read = three_fields a t b u c v tail (digits_high 10 (a ∷ t) (omega arith) dt) hx hw in
     rw (no_mark a (t ++ (44 ∷ ((b ∷ u) ++ (44 ∷ ((c ∷ v) ++ tail))))) (first_digit a here))
-    (records-one ((a ∷ t) ++ (44 ∷ ((b ∷ u) ++ (44 ∷ ((c ∷ v) ++ tail))))) stop.0 (read ∙ stop.1) stop.3 ∙ ap (λ (f : List (List ℕ)). f ∷ []) stop.2)
+    (records-one ((a ∷ t) ++ (44 ∷ ((b ∷ u) ++ (44 ∷ ((c ∷ v) ++ tail))))) stop.0 (read ∙ stop.1) stop.3
+    ∙ ap (λ (f : List (List ℕ)). f ∷ []) stop.2)
 
 -- the entry of three fields is that of their line
 pub plain_line : (t x w tail : List ℕ) (e : Entry) → entry_in (Some (t ∷ x ∷ w ∷ [])) ≡ Some e → IsLineEnd tail

@@ -92,7 +92,9 @@ pub read_two : (a b d : Reader (Bor (List ℕ))) (line : List ℕ) (f h : List (
     → (more : List (List (List ℕ))) × (records default_config (strip_bom line) ≡ f ∷ h ∷ more)
 read_two a b d line f h g r t =
     let one = first a b line f g r in
-    let two = rows-more (λ (s : Bor (List ℕ)). Some s.now) b d h default_config st.StartRecord (strip_bom line) one.0 (f ∷ []) (r.2 ∙ g.config) one.1 one.2 t in
+    let two =
+    rows-more (λ (s : Bor (List ℕ)). Some s.now) b d h default_config st.StartRecord (strip_bom line) one.0 (f ∷ [])
+    (r.2 ∙ g.config) one.1 one.2 t in
     reached-two _ _ _ _ _ two.2
 
 -- ---- the rows of a line that was scanned
@@ -105,12 +107,14 @@ after : (text : List ℕ) (n : ℕ) → take (length text - n) (drop n text) ≡
 after text n = take_all (length text - n) (drop n text) (simp length-drop (omega arith))
 
 pub one_row : (text : List ℕ) (fields others : List (List ℕ)) (end : RecordEnd) → ScansTo st.StartRecord text fields (Some end)
-    → ScansTo (state_of end.place) (take (length text - end.len) (drop end.len text)) others None → Some fields ∷ [] ≡ rows_in (records default_config text)
+    → ScansTo (state_of end.place) (take (length text - end.len) (drop end.len text)) others None
+    → Some fields ∷ [] ≡ rows_in (records default_config text)
 one_row text fields others end h t =
     rw (records-one text (fields, state_of end.place, drop end.len text) h.1 (rw (after text end.len) at t)) refl
 
 pub several_rows : (text : List ℕ) (fields others : List (List ℕ)) (end stop : RecordEnd) → ScansTo st.StartRecord text fields (Some end)
-    → ScansTo (state_of end.place) (take (length text - end.len) (drop end.len text)) others (Some stop) → None ∷ [] ≡ rows_in (records default_config text)
+    → ScansTo (state_of end.place) (take (length text - end.len) (drop end.len text)) others (Some stop)
+    → None ∷ [] ≡ rows_in (records default_config text)
 several_rows text fields others end stop h t =
     let rest = drop end.len text in
     let next = rw (after text end.len) at t in

@@ -7,7 +7,8 @@ use Rattle.std.specs.List.{starts_with}
 use Rattle.csv.specs.Reading.{strip_bom, is_bom}
 
 -- a line that begins with one, and one that does not
-pub without_mark : (line : List ℕ) (r : Bool) → r ≡ starts_with ◌==◌ line (0xEF ∷ 0xBB ∷ 0xBF ∷ []) → (r ≡ true → take (length line - 3) (drop 3 line) ≡ strip_bom line) × (r ≡ false → line ≡ strip_bom line)
+pub without_mark : (line : List ℕ) (r : Bool) → r ≡ starts_with ◌==◌ line (0xEF ∷ 0xBB ∷ 0xBF ∷ [])
+    → (r ≡ true → take (length line - 3) (drop 3 line) ≡ strip_bom line) × (r ≡ false → line ≡ strip_bom line)
 unfolding strip_bom
 without_mark line r e =
     let says = starts_is Decides-eqb line (0xEF ∷ 0xBB ∷ 0xBF ∷ []) r e in

@@ -10,7 +10,8 @@ use Rattle.a429_record.specs.WholeRecordings.{AreEntries}
 use Rattle.a429_record.proofs.BinaryFacts.{pieces-whole, big_endian-back}
 use Rattle.a429_record.proofs.WholeRecordings.{binary-whole}
 
-piece-back : (e : Entry) → e.time < 2 ^ 64 → e.word < 2 ^ 32 → (length (entry_piece e) ≡ entry_bytes) × (piece_entry (entry_piece e) ≡ Some e)
+piece-back : (e : Entry)
+    → e.time < 2 ^ 64 → e.word < 2 ^ 32 → (length (entry_piece e) ≡ entry_bytes) × (piece_entry (entry_piece e) ≡ Some e)
 piece-back e ht hw = from e.bus refl where
   time : big_endian (big_endian_bytes 8 e.time) ≡ e.time
   time = big_endian-back 8 e.time (omega arith)

@@ -14,7 +14,8 @@ use Rattle.a429_record.proofs.LinesFacts.{HasNoEnd-append}
 
 -- the first eight of some bytes, one by one
 pub eight : (xs : List ℕ) → 8 ≤ length xs
-    → take 8 xs ≡ get_or xs 0 0 ∷ get_or xs 1 0 ∷ get_or xs 2 0 ∷ get_or xs 3 0 ∷ get_or xs 4 0 ∷ get_or xs 5 0 ∷ get_or xs 6 0 ∷ get_or xs 7 0 ∷ []
+    → take 8 xs ≡ get_or xs 0 0 ∷ get_or xs 1 0 ∷ get_or xs 2 0 ∷ get_or xs 3 0 ∷ get_or xs 4 0 ∷ get_or xs 5 0 ∷ get_or xs 6 0
+    ∷ get_or xs 7 0 ∷ []
 eight (a ∷ b ∷ c ∷ d ∷ e ∷ f ∷ g ∷ h ∷ xs) long = refl
 eight [] long = absurd (omega arith)
 eight (a ∷ []) long = absurd (omega arith)
@@ -26,7 +27,8 @@ eight (a ∷ b ∷ c ∷ d ∷ e ∷ f ∷ []) long = absurd (omega arith)
 eight (a ∷ b ∷ c ∷ d ∷ e ∷ f ∷ g ∷ []) long = absurd (omega arith)
 
 -- a bus and a word, each after a comma, at the front of some bytes
-pub following : (r : List ℕ) → 11 ≤ length r → get_or r 0 0 ≡ 44 → get_or r 2 0 ≡ 44 → take 11 r ≡ 44 ∷ (take 1 (drop 1 r) ++ (44 ∷ take 8 (drop 3 r)))
+pub following : (r : List ℕ)
+    → 11 ≤ length r → get_or r 0 0 ≡ 44 → get_or r 2 0 ≡ 44 → take 11 r ≡ 44 ∷ (take 1 (drop 1 r) ++ (44 ∷ take 8 (drop 3 r)))
 following (x ∷ y ∷ z ∷ r) long a b = rw (a, b) refl
 following [] long a b = absurd (omega arith)
 following (x ∷ []) long a b = absurd (omega arith)
@@ -68,7 +70,8 @@ no_end row e h =
 -- the entry of a row is that of its line
 pub row_line : (row tail : List ℕ) (e : Entry) → IsPlainRow row e → IsLineEnd tail → line_entries (row ++ tail) ≡ Some e ∷ []
 row_line row tail e h end =
-    let together : row ++ tail ≡ h.time ++ (44 ∷ (h.bus ++ (44 ∷ (h.word ++ tail)))) = ap (λ (r : List ℕ). r ++ tail) h.layout ∙ simp append_assoc in
+    let together : row ++ tail ≡ h.time ++ (44 ∷ (h.bus ++ (44 ∷ (h.word ++ tail)))) =
+    ap (λ (r : List ℕ). r ++ tail) h.layout ∙ simp append_assoc in
     rw together (plain_line h.time h.bus h.word tail e h.says end)
 
 pub row_alone : (row : List ℕ) (e : Entry) → IsPlainRow row e → line_entries row ≡ Some e ∷ []
@@ -83,19 +86,24 @@ next (b ∷ bs) (suc n) inside h = ap (λ (r : List ℕ). b ∷ r) (next bs n (o
 pub with_return : (bytes : List ℕ) (n : ℕ) → n < length bytes → get_or (take (length bytes - n) (drop n bytes)) 0 0 ≡ 13
     → take (n + 1) bytes ≡ take n bytes ++ (13 ∷ [])
 with_return bytes n inside h =
-    let rest : take (length bytes - n) (drop n bytes) ≡ drop n bytes = take_all (length bytes - n) (drop n bytes) (simp length-drop (omega arith)) in
+    let rest : take (length bytes - n) (drop n bytes) ≡ drop n bytes =
+    take_all (length bytes - n) (drop n bytes) (simp length-drop (omega arith)) in
     let e : n + 1 ≡ suc n = omega arith in
     rw e (next bytes n inside (rw rest at h))
 
 pub return_line : (bytes : List ℕ) (n : ℕ) (e : Entry) → take (n + 1) bytes ≡ take n bytes ++ (13 ∷ []) → IsPlainRow (take n bytes) e
     → line_entries (take (n + 1) bytes) ≡ Some e ∷ []
-return_line bytes n e more h = subst (λ (l : List ℕ). line_entries l ≡ Some e ∷ []) (sym more) (row_line (take n bytes) (13 ∷ []) e h (inr refl))
+return_line bytes n e more h =
+    subst (λ (l : List ℕ). line_entries l ≡ Some e ∷ []) (sym more) (row_line (take n bytes) (13 ∷ []) e h (inr refl))
 
-pub return_no_end : (bytes : List ℕ) (n : ℕ) (e : Entry) → take (n + 1) bytes ≡ take n bytes ++ (13 ∷ []) → IsPlainRow (take n bytes) e → HasNoEnd (take (n + 1) bytes)
+pub return_no_end : (bytes : List ℕ) (n : ℕ) (e : Entry)
+    → take (n + 1) bytes ≡ take n bytes ++ (13 ∷ []) → IsPlainRow (take n bytes) e → HasNoEnd (take (n + 1) bytes)
 return_no_end bytes n e more h = rw more (HasNoEnd-append (take n bytes) (13 ∷ []) (no_end (take n bytes) e h) (refl, tt))
 
 -- a line that is a row and what may stand behind it
-pub whole_line : (line : List ℕ) (n : ℕ) (e : Entry) → IsPlainRow (take n line) e → IsLineEnd (take (length line - n) (drop n line)) → line_entries line ≡ Some e ∷ []
+pub whole_line : (line : List ℕ) (n : ℕ) (e : Entry)
+    → IsPlainRow (take n line) e → IsLineEnd (take (length line - n) (drop n line)) → line_entries line ≡ Some e ∷ []
 whole_line line n e h end =
-    let rest : take (length line - n) (drop n line) ≡ drop n line = take_all (length line - n) (drop n line) (simp length-drop (omega arith)) in
+    let rest : take (length line - n) (drop n line) ≡ drop n line =
+    take_all (length line - n) (drop n line) (simp length-drop (omega arith)) in
     rw take-append-drop at (row_line (take n line) (drop n line) e h (rw rest at end))

@@ -44,7 +44,8 @@ word_in-reads text None h =
     rw other refl
 
 -- eighteen digits leave room for one more
-pub room : (i n : ℕ) (text : List ℕ) → i ≤ length text → i ≤ 18 → n ≡ digits_value 10 (take i text) → AllDigits 10 (take i text) → n < 10 ^ 18
+pub room : (i n : ℕ) (text : List ℕ)
+    → i ≤ length text → i ≤ 18 → n ≡ digits_value 10 (take i text) → AllDigits 10 (take i text) → n < 10 ^ 18
 room i n text h few e all =
     let short = length-take-le i text (omega arith) in
     let below = digits_value-lt 10 (take i text) all in
@@ -95,19 +96,23 @@ above-time_in text h =
 
 -- ---- a text of some digits and one more
 
-value_is : (text : List ℕ) (i : ℕ) → length text ≡ i + 1 → digits_value 10 text ≡ digits_value 10 (take i text) * 10 + digit_value (get_or text i 0)
+value_is : (text : List ℕ) (i : ℕ)
+    → length text ≡ i + 1 → digits_value 10 text ≡ digits_value 10 (take i text) * 10 + digit_value (get_or text i 0)
 value_is text i long = ap (digits_value 10) (sym (take_all (i + 1) text (omega arith))) ∙ digits_value_more 10 text i (omega arith)
 
 pub not_front-time_in : (text : List ℕ) (i : ℕ) → (AllDigits 10 (take i text) → ⊥) → None ≡ time_in text
 not_front-time_in text i h = not_all-time_in text (λ all. h (AllDigits-take text i all))
 
-pub front_above-time_in : (text : List ℕ) (i n : ℕ) → length text ≡ i + 1 → n ≡ digits_value 10 (take i text) → (n * 10 < 2 ^ 64 → ⊥) → None ≡ time_in text
+pub front_above-time_in : (text : List ℕ) (i n : ℕ)
+    → length text ≡ i + 1 → n ≡ digits_value 10 (take i text) → (n * 10 < 2 ^ 64 → ⊥) → None ≡ time_in text
 front_above-time_in text i n long e h = above-time_in text (omega (arith, value_is text i long))
 
-pub sum-time_in : (text : List ℕ) (i n d : ℕ) (r : Option ℕ) → length text ≡ i + 1 → i ≤ 19 → AllDigits 10 (take i text) → n ≡ digits_value 10 (take i text) → d < 10 → d ≡ digit_value (get_or text i 0)
+pub sum-time_in : (text : List ℕ) (i n d : ℕ) (r : Option ℕ) → length text ≡ i + 1 → i ≤ 19 → AllDigits 10 (take i text)
+    → n ≡ digits_value 10 (take i text) → d < 10 → d ≡ digit_value (get_or text i 0)
     → SomeIff r (n * 10 + d < 2 ^ 64) (n * 10 + d) → r ≡ time_in text
 sum-time_in text i n d None long few all e small is h = above-time_in text (omega (arith, value_is text i long))
 sum-time_in text i n d (Some x) long few all e small is h =
     let inside : i < length text = omega arith in
     let each = digits_more 10 text i inside all (rw (← is) small) in
-    ap Some h.1 ∙ time_in-is text (n * 10 + d) (omega arith) (omega arith) (rw (take_all (i + 1) text (omega arith)) at each) (omega (arith, value_is text i long)) h.0
+    ap Some h.1 ∙ time_in-is text (n * 10 + d) (omega arith) (omega arith) (rw (take_all (i + 1) text (omega arith)) at each)
+    (omega (arith, value_is text i long)) h.0

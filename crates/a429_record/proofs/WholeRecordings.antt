@@ -21,7 +21,8 @@ binary-stands bytes binary = rw binary refl
 
 -- ---- from the rows
 
-pub entries-whole : (most n last : ℕ) (es : List Entry) → n + length es ≤ most → NeverFalls last es → entries_stand_for most n last (map Some es) ≡ whole es
+pub entries-whole : (most n last : ℕ) (es : List Entry)
+    → n + length es ≤ most → NeverFalls last es → entries_stand_for most n last (map Some es) ≡ whole es
 entries-whole most n last [] few up = refl
 entries-whole most n last (x ∷ es) few up =
     let least : last ≤ x.time = up.0 in
@@ -30,11 +31,13 @@ entries-whole most n last (x ∷ es) few up =
     rw (room, kept, entries-whole most (n + 1) x.time es (omega arith) up.1) refl
 
 -- all entries, from the first on
-pub recordable-whole : (most : ℕ) (rows : List (Option Entry)) (es : List Entry) → rows ≡ map Some es → IsWithin most es → entries_stand_for most 0 0 rows ≡ whole es
+pub recordable-whole : (most : ℕ) (rows : List (Option Entry)) (es : List Entry)
+    → rows ≡ map Some es → IsWithin most es → entries_stand_for most 0 0 rows ≡ whole es
 recordable-whole most rows es is h = ap (entries_stand_for most 0 0) is ∙ entries-whole most 0 0 es (omega (arith, h.0)) h.1
 
 pub text-whole : (bytes : List ℕ) (es : List Entry) → is_binary bytes ≡ false → IsWholeText bytes es → stands_for bytes ≡ whole es
-text-whole bytes es text w = text-stands bytes text ∙ ap (all_rows_stand_for most_entries) w.all ∙ rw w.first (recordable-whole most_entries (map entry_in w.rows) es w.entries w.recordable)
+text-whole bytes es text w = text-stands bytes text ∙ ap (all_rows_stand_for most_entries) w.all
+    ∙ rw w.first (recordable-whole most_entries (map entry_in w.rows) es w.entries w.recordable)
 
 pub binary-whole : (bytes : List ℕ) (es : List Entry) → IsWholeBinary bytes es → stands_for bytes ≡ whole es
 binary-whole bytes es w = rw w.0.all (recordable-whole most_entries (piece_entries w.0.following) es w.0.entries w.1)
@@ -56,20 +59,29 @@ record StandsForEntry (n last : ℕ) (o : Option Entry) (more : Entry → Record
   es_is : es ≡ entry ∷ (more entry).entries
   none : (more entry).fault ≡ None
 
-row-stands : (n last : ℕ) (o : Option Entry) (more : Entry → Recording) (es : List Entry) → row_stands_for n last o more ≡ whole es → StandsForEntry n last o more es
+row-stands : (n last : ℕ) (o : Option Entry) (more : Entry → Recording) (es : List Entry) → row_stands_for n last o more ≡ whole es
+    → StandsForEntry n last o more es
 row-stands n last None more es e = absurd (faulty (fault.Row n) es e)
 row-stands n last (Some x) more es e = elim (cases_Bool (nat_lt x.time last)) [
   | inl back ↦ absurd (faulty (fault.TimeBack n) es (rw back at e))
   | inr kept ↦
       let rest = rw kept at e in
       let least : last ≤ x.time = grind (arith, nat_tests) in
-      record { entry = x; is = refl; up = least; es_is = sym (ap (λ (t : Recording). t.entries) rest); none = ap (λ (t : Recording). t.fault) rest }
+      record {
+        entry = x;
+        is = refl;
+        up = least;
+        es_is = sym (ap (λ (t : Recording). t.entries) rest);
+        none = ap (λ (t : Recording). t.fault) rest;
+      }
 ]
 
-first_entry : (r : Option Entry) (x : Entry) (rows : List (Option Entry)) (es : List Entry) → r ≡ Some x → rows ≡ map Some es → r ∷ rows ≡ map Some (x ∷ es)
+first_entry : (r : Option Entry) (x : Entry) (rows : List (Option Entry)) (es : List Entry)
+    → r ≡ Some x → rows ≡ map Some es → r ∷ rows ≡ map Some (x ∷ es)
 first_entry r x rows es here rest = rw (here, rest) refl
 
-entries-of : (n last : ℕ) (rows : List (Option Entry)) (es : List Entry) → n ≤ most_entries → entries_stand_for most_entries n last rows ≡ whole es
+entries-of : (n last : ℕ) (rows : List (Option Entry)) (es : List Entry)
+    → n ≤ most_entries → entries_stand_for most_entries n last rows ≡ whole es
     → (rows ≡ map Some es) × (n + length es ≤ most_entries) × NeverFalls last es
 entries-of n last [] [] few e = (refl, omega arith, tt)
 entries-of n last [] (x ∷ es) few e = absurd (nothing_more x es e)

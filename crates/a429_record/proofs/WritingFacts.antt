@@ -42,7 +42,9 @@ unfolding fields_text is_blank
 plain_row t b w ht hb hw = rw (plain t ht, plain b hb, plain w hw, append-nil) (simp append_assoc)
 
 pub entry_line : (e : Entry) → e.time < 2 ^ 64 → row_text default_writer (entry_fields e) ≡ line_text e
-entry_line e small = plain_row (decimal e.time) (bus_text e.bus) (hex_text e.word) (AllHigh-decimal e.time small) (AllHigh-bus e.bus) (AllHigh-numeral 8 e.word)
+entry_line e small =
+    plain_row (decimal e.time) (bus_text e.bus) (hex_text e.word) (AllHigh-decimal e.time small) (AllHigh-bus e.bus)
+    (AllHigh-numeral 8 e.word)
 
 pub header_line : row_text default_writer header_fields ≡ header_text
 unfolding fields_text is_blank
@@ -51,7 +53,8 @@ header_line = refl
 -- ---- an entry, put as the first of 32 bytes
 
 -- digits that end where twelve bytes begin, and these: the first of the 32 bytes from the first digit on
-pub entry_written : (start : ℕ) (digits zeros parts rest old new : List ℕ) → start + length digits ≡ 20 → length zeros ≡ 20 → length parts ≡ 12
+pub entry_written : (start : ℕ) (digits zeros parts rest old new : List ℕ)
+    → start + length digits ≡ 20 → length zeros ≡ 20 → length parts ≡ 12
     → old ≡ zeros ++ (parts ++ rest) → drop start new ≡ digits ++ drop 20 old
     → take (32 - start) (take (start + 32 - start) (drop start new)) ≡ digits ++ parts
 entry_written start digits zeros parts rest old new ends size twelve was written =
@@ -64,43 +67,52 @@ entry_written start digits zeros parts rest old new ends size twelve was written
     ∙ ap (take (32 - start)) text ∙ ap (λ k. take k ((digits ++ parts) ++ rest)) all ∙ take-append_seam (digits ++ parts) rest
 
 -- the text of an entry, its time apart
-pub entry_parts : (between after : ℕ) (e : Entry) → decimal e.time ++ (between ∷ (bus_text e.bus ++ (between ∷ (hex_text e.word ++ (after ∷ []))))) ≡ entry_text between after e
+pub entry_parts : (between after : ℕ) (e : Entry)
+    → decimal e.time ++ (between ∷ (bus_text e.bus ++ (between ∷ (hex_text e.word ++ (after ∷ []))))) ≡ entry_text between after e
 entry_parts between after e = simp append_assoc
 
 -- ---- an entry, put after the digits of its time but the last four
 
 -- digits that end at the place 16
-pub upper_written : (start : ℕ) (digits bytes rest : List ℕ) → start + length digits ≡ 16 → drop start bytes ≡ digits ++ rest → drop start (take 16 bytes) ≡ digits
+pub upper_written : (start : ℕ) (digits bytes rest : List ℕ)
+    → start + length digits ≡ 16 → drop start bytes ≡ digits ++ rest → drop start (take 16 bytes) ≡ digits
 upper_written start digits bytes rest ends written =
-    ap (λ k. drop start (take k bytes)) (sym ends) ∙ drop-take start (length digits) bytes ∙ ap (take (length digits)) written ∙ take-append_seam digits rest
+    ap (λ k. drop start (take k bytes)) (sym ends) ∙ drop-take start (length digits) bytes ∙ ap (take (length digits)) written
+    ∙ take-append_seam digits rest
 
 -- bytes written over at the place 16, and then at the place 20
-pub written_over : (old mid new four fields later rest : List ℕ) → 20 ≤ length old → length four ≡ 4 → mid ≡ take 16 old ++ (four ++ later) → new ≡ take 20 mid ++ (fields ++ rest) → new ≡ take 16 old ++ (four ++ (fields ++ rest))
+pub written_over : (old mid new four fields later rest : List ℕ) → 20 ≤ length old → length four ≡ 4 → mid ≡ take 16 old ++ (four ++ later)
+    → new ≡ take 20 mid ++ (fields ++ rest) → new ≡ take 16 old ++ (four ++ (fields ++ rest))
 written_over old mid new four fields later rest size count first second =
     let upper : length (take 16 old) ≡ 16 = length-take-le 16 old (omega (arith, size)) in
     let twenty : length (take 16 old ++ four) ≡ 20 = omega (arith, length-append (take 16 old) four, upper, count) in
     let parted : mid ≡ (take 16 old ++ four) ++ later = first ∙ sym (append_assoc (take 16 old) four later) in
-    second ∙ ap (λ t. t ++ (fields ++ rest)) (ap (take 20) parted ∙ take_at (take 16 old ++ four) later 20 twenty) ∙ append_assoc (take 16 old) four (fields ++ rest)
+    second ∙ ap (λ t. t ++ (fields ++ rest)) (ap (take 20) parted ∙ take_at (take 16 old ++ four) later 20 twenty)
+    ∙ append_assoc (take 16 old) four (fields ++ rest)
 
 -- what is before the place 16 stays
 pub upper_stays : (old new rest : List ℕ) → 20 ≤ length old → new ≡ take 16 old ++ rest → take 16 new ≡ take 16 old
 upper_stays old new rest size is = ap (take 16) is ∙ take_at (take 16 old) rest 16 (length-take-le 16 old (omega (arith, size)))
 
 -- the first of the 32 bytes from the first digit on
-pub after_upper : (start : ℕ) (digits old four fields rest new : List ℕ) → 20 ≤ length old → start ≤ 16 → drop start (take 16 old) ≡ digits → length four ≡ 4 → length fields ≡ 12 → new ≡ take 16 old ++ (four ++ (fields ++ rest))
+pub after_upper : (start : ℕ) (digits old four fields rest new : List ℕ) → 20 ≤ length old → start ≤ 16 → drop start (take 16 old) ≡ digits
+    → length four ≡ 4 → length fields ≡ 12 → new ≡ take 16 old ++ (four ++ (fields ++ rest))
     → take (32 - start) (take (start + 32 - start) (drop start new)) ≡ digits ++ (four ++ fields)
 after_upper start digits old four fields rest new size before was count twelve is =
     let upper : length (take 16 old) ≡ 16 = length-take-le 16 old (omega (arith, size)) in
     let left : length digits + start ≡ 16 = omega (arith, ap length was, length-drop start (take 16 old), upper, before) in
-    let all : 32 - start ≡ length (digits ++ (four ++ fields)) = omega (arith, left, length-append digits (four ++ fields), length-append four fields, count, twelve) in
+    let all : 32 - start ≡ length (digits ++ (four ++ fields)) =
+    omega (arith, left, length-append digits (four ++ fields), length-append four fields, count, twelve) in
     let text : drop start new ≡ (digits ++ (four ++ fields)) ++ rest =
     ap (drop start) is ∙ drop-append-le start (take 16 old) (four ++ (fields ++ rest)) (omega (arith, before, upper))
     ∙ ap (λ d. d ++ (four ++ (fields ++ rest))) was ∙ simp append_assoc in
     take-take (32 - start) (start + 32 - start) (drop start new) (omega arith)
-    ∙ ap (take (32 - start)) text ∙ ap (λ k. take k ((digits ++ (four ++ fields)) ++ rest)) all ∙ take-append_seam (digits ++ (four ++ fields)) rest
+    ∙ ap (take (32 - start)) text ∙ ap (λ k. take k ((digits ++ (four ++ fields)) ++ rest)) all
+    ∙ take-append_seam (digits ++ (four ++ fields)) rest
 
 -- the text of an entry, its time in two
-pub entry_of_two : (between after : ℕ) (e : Entry) (fields : List ℕ) → 10000 ≤ e.time → e.time < 2 ^ 64 → fields ≡ between ∷ (bus_text e.bus ++ (between ∷ (hex_text e.word ++ (after ∷ []))))
+pub entry_of_two : (between after : ℕ) (e : Entry) (fields : List ℕ)
+    → 10000 ≤ e.time → e.time < 2 ^ 64 → fields ≡ between ∷ (bus_text e.bus ++ (between ∷ (hex_text e.word ++ (after ∷ []))))
     → decimal (e.time / 10000) ++ ((pair (e.time % 10000 / 100) ++ pair (e.time % 10000 % 100)) ++ fields) ≡ entry_text between after e
 entry_of_two between after e fields least small is =
     sym (append_assoc (decimal (e.time / 10000)) (pair (e.time % 10000 / 100) ++ pair (e.time % 10000 % 100)) fields)

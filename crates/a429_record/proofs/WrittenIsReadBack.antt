@@ -57,7 +57,8 @@ word-back w h =
     let value : Some (digits_value 16 (hex_text w)) ≡ Some w = hex_text-read w (Some (digits_value 16 (hex_text w))) h reads in
     sym (word_in-reads (hex_text w) (Some (digits_value 16 (hex_text w))) reads) ∙ value
 
-entry-back : (e : Entry) → e.time < 2 ^ 64 → e.word < 2 ^ 32 → entry_in (Some (decimal e.time ∷ bus_text e.bus ∷ hex_text e.word ∷ [])) ≡ Some e
+entry-back : (e : Entry)
+    → e.time < 2 ^ 64 → e.word < 2 ^ 32 → entry_in (Some (decimal e.time ∷ bus_text e.bus ∷ hex_text e.word ∷ [])) ≡ Some e
 entry-back e ht hw = rw (time-back e.time ht, bus-back e.bus, word-back e.word hw) refl
 
 -- ---- lines
@@ -73,7 +74,8 @@ no_end (b ∷ bs) h = ((high b h.0).3, no_end bs h.1)
 pub body-end : (e : Entry) → e.time < 2 ^ 64 → HasNoEnd (body e)
 body-end e h =
     let word : HasNoEnd (hex_text e.word ++ []) = rw append-nil (no_end (hex_text e.word) (AllHigh-numeral 8 e.word)) in
-    HasNoEnd-append (decimal e.time) (44 ∷ (bus_text e.bus ++ (44 ∷ (hex_text e.word ++ [])))) (no_end (decimal e.time) (AllHigh-decimal e.time h))
+    HasNoEnd-append (decimal e.time) (44 ∷ (bus_text e.bus ++ (44 ∷ (hex_text e.word ++ []))))
+    (no_end (decimal e.time) (AllHigh-decimal e.time h))
     (refl, HasNoEnd-append (bus_text e.bus) (44 ∷ (hex_text e.word ++ [])) (no_end (bus_text e.bus) (AllHigh-bus e.bus)) (refl, word))
 
 pub line-is : (e : Entry) (rest : List ℕ) → line_text e ++ rest ≡ body e ++ (10 ∷ rest)
@@ -85,7 +87,8 @@ rows-line e rest h = ap (flat_map line_rows) (ap recording_lines (line-is e rest
 pub rows-back : (es : List Entry) → AreEntries es → map entry_in (rows_of (flat_map line_text es)) ≡ map Some es
 rows-back [] h = refl
 rows-back (e ∷ es) h =
-    let here : line_entries (body e) ≡ Some e ∷ [] = plain_line (decimal e.time) (bus_text e.bus) (hex_text e.word) [] e (entry-back e h.0 h.1) (inl refl) in
+    let here : line_entries (body e) ≡ Some e ∷ [] =
+    plain_line (decimal e.time) (bus_text e.bus) (hex_text e.word) [] e (entry-back e h.0 h.1) (inl refl) in
     ap (map entry_in) (rows-line e (flat_map line_text es) h.0) ∙ map-append entry_in (line_rows (body e)) (rows_of (flat_map line_text es))
     ∙ rw (here, rows-back es h.2) refl
 

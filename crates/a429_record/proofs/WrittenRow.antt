@@ -30,7 +30,8 @@ time_is : (t : List ℕ) (n : ℕ) → time_in t ≡ Some n → (get_or t 0 0 �
 time_is t n h lead =
     let (some, all) = time_plain t (rw h refl) in
     let (value, small) = time_value t n h in
-    sym (decimal-digits_value (numerals_by_value _ tells_digits) t (all_digits-to 10 t all) (omega arith) lead (omega arith)) ∙ ap decimal value
+    sym (decimal-digits_value (numerals_by_value _ tells_digits) t (all_digits-to 10 t all) (omega arith) lead (omega arith))
+    ∙ ap decimal value
 
 bus_is : (x : List ℕ) (b : Bus) → bus_in x ≡ Some b → x ≡ bus_text b
 bus_is [] b h = cc h
@@ -58,13 +59,22 @@ plain_of row word e h says = record {
 }
 
 -- its time has no 0 in front, unless it is 0
-own_line : (row word : List ℕ) (e : Entry) → IsFront row e.time e.bus word → word ≡ hex_text e.word → (get_or row 0 0 ≡ 48 → length row ≡ 12) → row ++ (10 ∷ []) ≡ line_text e
+own_line : (row word : List ℕ) (e : Entry)
+    → IsFront row e.time e.bus word → word ≡ hex_text e.word → (get_or row 0 0 ≡ 48 → length row ≡ 12) → row ++ (10 ∷ []) ≡ line_text e
 own_line row word e h hex own =
     let (some, digits) = time_plain h.digits (rw h.timed refl) in
     let bus = bus_is h.letter e.bus h.heard in
     let one : length h.letter ≡ 1 = ap length bus ∙ bus_length e.bus in
-    let size : length row ≡ length h.digits + 11 = omega (arith, ap length h.layout, length-append h.digits (44 ∷ (h.letter ++ (44 ∷ word))), length-append h.letter (44 ∷ word), one, h.eight) in
-    let first : get_or row 0 0 ≡ get_or h.digits 0 0 = ap (λ (r : List ℕ). get_or r 0 0) h.layout ∙ first_of h.digits (44 ∷ (h.letter ++ (44 ∷ word))) some in
+    let size : length row ≡ length h.digits + 11 = omega (
+      arith,
+      ap length h.layout,
+      length-append h.digits (44 ∷ (h.letter ++ (44 ∷ word))),
+      length-append h.letter (44 ∷ word),
+      one,
+      h.eight,
+    ) in
+    let first : get_or row 0 0 ≡ get_or h.digits 0 0 =
+    ap (λ (r : List ℕ). get_or r 0 0) h.layout ∙ first_of h.digits (44 ∷ (h.letter ++ (44 ∷ word))) some in
     let time = time_is h.digits e.time h.timed (λ zero. omega (arith, own (first ∙ zero), size)) in
     ap (λ (r : List ℕ). r ++ (10 ∷ [])) (h.layout ∙ ap (λ (t : List ℕ). t ++ (44 ∷ (h.letter ++ (44 ∷ word)))) time
     ∙ ap (λ (t : List ℕ). decimal e.time ++ (44 ∷ (t ++ (44 ∷ word)))) bus
@@ -75,11 +85,13 @@ own_line row word e h hex own =
 pub next_byte : (bytes : List ℕ) (n x : ℕ) → n < length bytes → get_or bytes n x ≡ 10 → take (n + 1) bytes ≡ take n bytes ++ (10 ∷ [])
 next_byte bytes n x inside is = take_more bytes n x inside ∙ ap (λ y. take n bytes ++ y ∷ []) is
 
-pub written_line : (bytes word : List ℕ) (n : ℕ) (e : Entry) → take (n + 1) bytes ≡ take n bytes ++ (10 ∷ []) → n ≤ length bytes → IsFront (take n bytes) e.time e.bus word → word ≡ hex_text e.word
+pub written_line : (bytes word : List ℕ) (n : ℕ) (e : Entry)
+    → take (n + 1) bytes ≡ take n bytes ++ (10 ∷ []) → n ≤ length bytes → IsFront (take n bytes) e.time e.bus word → word ≡ hex_text e.word
     → (get_or bytes 0 0 ≡ 48 → n ≡ 12) → take (n + 1) bytes ≡ line_text e
 written_line bytes word n e more inside h hex own =
     let size = length-take-le n bytes inside in
-    more ∙ own_line (take n bytes) word e h hex (λ zero. size ∙ own (sym (first_taken n bytes (some_taken (take n bytes) word e h)) ∙ zero)) where
+    more ∙ own_line (take n bytes) word e h hex
+    (λ zero. size ∙ own (sym (first_taken n bytes (some_taken (take n bytes) word e h)) ∙ zero)) where
       some_taken : (row word : List ℕ) (e : Entry) → IsFront row e.time e.bus word → 1 ≤ length row
       some_taken row word e h = omega (arith, ap length h.layout, length-append h.digits (44 ∷ (h.letter ++ (44 ∷ word))))
 

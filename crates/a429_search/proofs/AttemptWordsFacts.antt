@@ -12,7 +12,8 @@ abbrev pub IsSoFar : ℕ → List ℕ → ℕ → ℕ → Type 0
 IsSoFar w ys n k = (more : List ℕ) → IsSubsequenceOf (w ∷ more) (drop n ys) ↔ IsSubsequenceOf (w ∷ more) (drop k ys)
 
 -- it is the next one
-pub found : (w : ℕ) (ys : List ℕ) (n k : ℕ) → k < length ys → get_or ys k 0 ≡ w → IsSoFar w ys n k → (more : List ℕ) → IsSubsequenceOf (w ∷ more) (drop n ys) ↔ IsSubsequenceOf more (drop (k + 1) ys)
+pub found : (w : ℕ) (ys : List ℕ) (n k : ℕ) → k < length ys → get_or ys k 0 ≡ w → IsSoFar w ys n k → (more : List ℕ)
+    → IsSubsequenceOf (w ∷ more) (drop n ys) ↔ IsSubsequenceOf more (drop (k + 1) ys)
 found w ys n k l e so more = ((λ h. here.0 ((so more).0 h)), (λ h. (so more).1 (here.1 h)))
   where
     here : IsSubsequenceOf (w ∷ more) (drop k ys) ↔ IsSubsequenceOf more (drop (k + 1) ys)
@@ -26,8 +27,11 @@ one_more (v ∷ words) w more = ap (λ (l : List ℕ). v ∷ l) (one_more words 
 
 -- ---- with one more word
 
-pub passed_one : (words : List ℕ) (w n : ℕ) (o : Option ℕ) (block : List ℕ) → IsPassedWith words (Some n) block → ((k : ℕ) → o ≡ Some k → (more : List ℕ) → IsSubsequenceOf (w ∷ more) (drop n block) ↔ IsSubsequenceOf more (drop k block)) → (o ≡ None → (more : List ℕ) → ¬ IsSubsequenceOf (w ∷ more) (drop n block)) → IsPassedWith (words ++ w ∷ []) o block
-passed_one words w n None block h some none = λ more s. none refl more ((h (w ∷ more)).0 (subst (λ l. IsSubsequenceOf l block) (one_more words w more) s))
+pub passed_one : (words : List ℕ) (w n : ℕ) (o : Option ℕ) (block : List ℕ) → IsPassedWith words (Some n) block
+    → ((k : ℕ) → o ≡ Some k → (more : List ℕ) → IsSubsequenceOf (w ∷ more) (drop n block) ↔ IsSubsequenceOf more (drop k block))
+    → (o ≡ None → (more : List ℕ) → ¬ IsSubsequenceOf (w ∷ more) (drop n block)) → IsPassedWith (words ++ w ∷ []) o block
+passed_one words w n None block h some none =
+    λ more s. none refl more ((h (w ∷ more)).0 (subst (λ l. IsSubsequenceOf l block) (one_more words w more) s))
 passed_one words w n (Some k) block h some none = λ more. (
   (λ s. (some k refl more).0 ((h (w ∷ more)).0 (subst (λ l. IsSubsequenceOf l block) (one_more words w more) s))),
   (λ s. subst (λ l. IsSubsequenceOf l block) (sym (one_more words w more)) ((h (w ∷ more)).1 ((some k refl more).1 s))),
@@ -37,20 +41,27 @@ passed_one words w n (Some k) block h some none = λ more. (
 abbrev pub Finds : ℕ → ℕ → List ℕ → Option ℕ → Type 0
 Finds w n block o = IfSome o (λ k. (more : List ℕ) → IsSubsequenceOf (w ∷ more) (drop n block) ↔ IsSubsequenceOf more (drop k block))
 
-pub passed_known : (t : Bool) (words items slice block : List ℕ) (w n : ℕ) (passed o : Option ℕ) → (t ≡ true → IsPassedWith words passed items) → passed ≡ Some n → slice ≡ items → Finds w n slice o → (o ≡ None → (more : List ℕ) → ¬ IsSubsequenceOf (w ∷ more) (drop n slice)) → (if t then Some items else None) ≡ Some block → IsPassedWith (words ++ w ∷ []) o block
+pub passed_known : (t : Bool) (words items slice block : List ℕ) (w n : ℕ) (passed o : Option ℕ)
+    → (t ≡ true → IsPassedWith words passed items) → passed ≡ Some n → slice ≡ items → Finds w n slice o
+    → (o ≡ None → (more : List ℕ) → ¬ IsSubsequenceOf (w ∷ more) (drop n slice)) → (if t then Some items else None) ≡ Some block
+    → IsPassedWith (words ++ w ∷ []) o block
 passed_known true words items slice block w n passed o h is same some none e =
     let all : items ≡ block = cc e in
     let whole : slice ≡ block = same ∙ all in
-    let here : IsPassedWith words (Some n) block = subst (λ b. IsPassedWith words (Some n) b) all (subst (λ q. IsPassedWith words q items) is (h refl)) in
+    let here : IsPassedWith words (Some n) block =
+    subst (λ b. IsPassedWith words (Some n) b) all (subst (λ q. IsPassedWith words q items) is (h refl)) in
     passed_one words w n o block here
-    (λ k f. subst (λ b. (more : List ℕ) → IsSubsequenceOf (w ∷ more) (drop n b) ↔ IsSubsequenceOf more (drop k b)) whole (subst (λ (q : Option ℕ). Finds w n slice q) f some))
+    (λ k f. subst (λ b. (more : List ℕ)
+    → IsSubsequenceOf (w ∷ more) (drop n b) ↔ IsSubsequenceOf more (drop k b)) whole (subst (λ (q : Option ℕ). Finds w n slice q) f some))
     (λ f. subst (λ b. (more : List ℕ) → ¬ IsSubsequenceOf (w ∷ more) (drop n b)) whole (none f))
 passed_known false words items slice block w n passed o h is same some none e = absurd (cc e)
 
 pub passed_all : (words : List ℕ) → IsPassedWith words (Some (length words)) words
 passed_all words more = (
-  (λ h. rw (drop_all (length words) words (omega arith)) (none more (omega (arith, sub_length (words ++ more) words h, length-append words more)))),
-  (λ h. let e : more ≡ [] = subst (λ zs. IsSubsequenceOf more zs) (drop_all (length words) words (omega arith)) h in rw (e, append-nil words) (sub_all words)),
+  (λ h. rw (drop_all (length words) words (omega arith))
+      (none more (omega (arith, sub_length (words ++ more) words h, length-append words more)))),
+  (λ h. let e : more ≡ [] = subst (λ zs. IsSubsequenceOf more zs) (drop_all (length words) words (omega arith)) h in
+      rw (e, append-nil words) (sub_all words)),
 )
   where
     none : (more : List ℕ) → length more ≤ 0 → more ≡ []
@@ -67,7 +78,8 @@ outside words block h s = h [] (subst (λ l. IsSubsequenceOf l block) (sym (appe
 pub inside : (words block : List ℕ) (n : ℕ) → IsPassedWith words (Some n) block → ¬ AreOther words (Some block)
 inside words block n h other = other (subst (λ l. IsSubsequenceOf l block) (append-nil words) ((h []).1 (sub_none (drop n block))))
 
-pub is_outside : (o : Option ℕ) (t : Bool) (words block : List ℕ) → IsPassedWith words o block → is_some o ≡ not t → (IsTrue t) ↔ AreOther words (Some block)
+pub is_outside : (o : Option ℕ) (t : Bool) (words block : List ℕ)
+    → IsPassedWith words o block → is_some o ≡ not t → (IsTrue t) ↔ AreOther words (Some block)
 is_outside None true words block h e = ((λ y. outside words block h), (λ other. refl))
 is_outside None false words block h e = absurd (cc e)
 is_outside (Some n) true words block h e = absurd (cc e)

@@ -56,13 +56,16 @@ without v s = cond (eqb (bit_at v (trailing_zeros w16 s.value)) 1) (bit_xor v s.
 abbrev pub left : List Sum → ℕ → ℕ
 left basis v = fold without v basis
 
-value_if : (b : Bool) (c s : Sum) → (cond b (record { value = bit_xor c.value s.value; chosen = bit_xor c.chosen s.chosen }) c).value ≡ cond b (bit_xor c.value s.value) c.value
+value_if : (b : Bool) (c s : Sum)
+    → (cond b (record { value = bit_xor c.value s.value; chosen = bit_xor c.chosen s.chosen }) c).value
+    ≡ cond b (bit_xor c.value s.value) c.value
 value_if true c s = refl
 value_if false c s = refl
 
 pub value_left : (basis : List Sum) (c : Sum) → (fold reduced_by c basis).value ≡ left basis c.value
 value_left [] c = refl
-value_left (s ∷ basis) c = value_left basis (reduced_by c s) ∙ ap (left basis) (value_if (eqb (bit_at c.value (trailing_zeros w16 s.value)) 1) c s)
+value_left (s ∷ basis) c =
+    value_left basis (reduced_by c s) ∙ ap (left basis) (value_if (eqb (bit_at c.value (trailing_zeros w16 s.value)) 1) c s)
 
 without-xor : (u v : ℕ) (s : Sum) → without (bit_xor u v) s ≡ bit_xor (without u s) (without v s)
 without-xor u v s =
@@ -100,7 +103,8 @@ module _ (cs : List ℕ) where
   abbrev of_sum : Sum → ℕ
   of_sum c = bit_xor (xor_of cs c.chosen) c.value
 
-  tied_if : (b : Bool) (c s : Sum) → xor_of cs s.chosen ≡ s.value → of_sum (cond b (record { value = bit_xor c.value s.value; chosen = bit_xor c.chosen s.chosen }) c) ≡ of_sum c
+  tied_if : (b : Bool) (c s : Sum) → xor_of cs s.chosen ≡ s.value
+      → of_sum (cond b (record { value = bit_xor c.value s.value; chosen = bit_xor c.chosen s.chosen }) c) ≡ of_sum c
   tied_if true c s e =
       ap (λ (x : ℕ). bit_xor x (bit_xor c.value s.value)) (xor_of-xor cs c.chosen s.chosen ∙ ap (bit_xor (xor_of cs c.chosen)) e)
       ∙ cancel (xor_of cs c.chosen) c.value s.value
@@ -110,19 +114,24 @@ module _ (cs : List ℕ) where
   tied [] c h = refl
   tied (s ∷ basis) c h =
       let P : Sum → Type 0 = λ s. xor_of cs s.chosen ≡ s.value in
-      tied basis (reduced_by c s) (All-tail P s basis h) ∙ tied_if (eqb (bit_at c.value (trailing_zeros w16 s.value)) 1) c s (All-head P s basis h)
+      tied basis (reduced_by c s) (All-tail P s basis h)
+      ∙ tied_if (eqb (bit_at c.value (trailing_zeros w16 s.value)) 1) c s (All-head P s basis h)
 
-within_if : (n : ℕ) (b : Bool) (c s : Sum) → s.chosen < 2 ^ n → c.chosen < 2 ^ n → (cond b (record { value = bit_xor c.value s.value; chosen = bit_xor c.chosen s.chosen }) c).chosen < 2 ^ n
+within_if : (n : ℕ) (b : Bool) (c s : Sum) → s.chosen < 2 ^ n → c.chosen < 2 ^ n
+    → (cond b (record { value = bit_xor c.value s.value; chosen = bit_xor c.chosen s.chosen }) c).chosen < 2 ^ n
 within_if n true c s h k = xor_lt n c.chosen s.chosen k h
 within_if n false c s h k = k
 
-pub within : (n : ℕ) (basis : List Sum) (c : Sum) → All (λ s. s.chosen < 2 ^ n) basis → c.chosen < 2 ^ n → (fold reduced_by c basis).chosen < 2 ^ n
+pub within : (n : ℕ) (basis : List Sum) (c : Sum)
+    → All (λ s. s.chosen < 2 ^ n) basis → c.chosen < 2 ^ n → (fold reduced_by c basis).chosen < 2 ^ n
 within n [] c h k = k
 within n (s ∷ basis) c h k =
     let P : Sum → Type 0 = λ s. s.chosen < 2 ^ n in
-    within n basis (reduced_by c s) (All-tail P s basis h) (within_if n (eqb (bit_at c.value (trailing_zeros w16 s.value)) 1) c s (All-head P s basis h) k)
+    within n basis (reduced_by c s) (All-tail P s basis h)
+    (within_if n (eqb (bit_at c.value (trailing_zeros w16 s.value)) 1) c s (All-head P s basis h) k)
 
-small_if : (b : Bool) (c s : Sum) → s.value < 2 ^ 16 → c.value < 2 ^ 16 → (cond b (record { value = bit_xor c.value s.value; chosen = bit_xor c.chosen s.chosen }) c).value < 2 ^ 16
+small_if : (b : Bool) (c s : Sum) → s.value < 2 ^ 16 → c.value < 2 ^ 16
+    → (cond b (record { value = bit_xor c.value s.value; chosen = bit_xor c.chosen s.chosen }) c).value < 2 ^ 16
 small_if true c s h k = xor_lt 16 c.value s.value k h
 small_if false c s h k = k
 
@@ -130,7 +139,8 @@ small : (basis : List Sum) (c : Sum) → All (λ s. s.value < 2 ^ 16) basis → 
 small [] c h k = k
 small (s ∷ basis) c h k =
     let P : Sum → Type 0 = λ s. s.value < 2 ^ 16 in
-    small basis (reduced_by c s) (All-tail P s basis h) (small_if (eqb (bit_at c.value (trailing_zeros w16 s.value)) 1) c s (All-head P s basis h) k)
+    small basis (reduced_by c s) (All-tail P s basis h)
+    (small_if (eqb (bit_at c.value (trailing_zeros w16 s.value)) 1) c s (All-head P s basis h) k)
 
 -- ---- one column more
 
@@ -177,16 +187,21 @@ module _ (cs : List ℕ) (basis : List Sum) (k : ℕ) (b : IsBasis cs basis (tak
       let r_small : r.value < 2 ^ 16 = subst (λ s. s.value < 2 ^ 16) (sym is) (small basis c b.small m) in
       record {
         sums = All-push (λ (s : Sum). xor_of cs s.chosen ≡ s.value) basis r b.sums is_sum;
-        within = All-push (λ (s : Sum). s.chosen < 2 ^ length cs) basis r b.within (subst (λ s. s.chosen < 2 ^ length cs) (sym is) (within (length cs) basis c b.within (pow_below k (length cs) l)));
+        within =
+            All-push (λ (s : Sum). s.chosen < 2 ^ length cs) basis r b.within
+            (subst (λ s. s.chosen < 2 ^ length cs) (sym is) (within (length cs) basis c b.within (pow_below k (length cs) l)));
         nonzero = All-push (λ (s : Sum). 0 < s.value) basis r b.nonzero h;
         small = All-push (λ (s : Sum). s.value < 2 ^ 16) basis r b.small r_small;
-        reduce = All-more (Reduces (basis ++ r ∷ [])) cs k 0 l (All-weaker (Reduces basis) (Reduces (basis ++ r ∷ [])) still (take k cs) b.reduce)
+        reduce =
+            All-more (Reduces (basis ++ r ∷ [])) cs k 0 l
+            (All-weaker (Reduces basis) (Reduces (basis ++ r ∷ [])) still (take k cs) b.reduce)
             (left_push (get_or cs k 0) ∙ ap (λ (v : ℕ). without v r) (sym left_is) ∙ gone h r_small);
       }
 
 -- ---- the wanted number
 
-module _ (cs : List ℕ) (basis : List Sum) (w : ℕ) (b : IsBasis cs basis cs) (r : Sum) (is : r ≡ fold reduced_by (record { value = w; chosen = 0 }) basis) where
+module _ (cs : List ℕ) (basis : List Sum) (w : ℕ) (b : IsBasis cs basis cs) (r : Sum)
+    (is : r ≡ fold reduced_by (record { value = w; chosen = 0 }) basis) where
   pub found : r.value ≡ 0 → xor_of cs r.chosen ≡ w
   found e =
       sym (xor_zero_r (xor_of cs r.chosen))
@@ -196,9 +211,14 @@ module _ (cs : List ℕ) (basis : List Sum) (w : ℕ) (b : IsBasis cs basis cs) 
       ∙ ap (λ (x : ℕ). bit_xor x w) (xor_of-zero cs)
 
   pub found_within : r.chosen < 2 ^ length cs
-  found_within = subst (λ s. s.chosen < 2 ^ length cs) (sym is) (within (length cs) basis (record { value = w; chosen = 0 }) b.within (pow_pos (length cs)))
+  found_within =
+      subst (λ s. s.chosen < 2 ^ length cs) (sym is)
+      (within (length cs) basis (record { value = w; chosen = 0 }) b.within (pow_pos (length cs)))
 
   pub not_found : r.value ≢ 0 → (m : ℕ) → xor_of cs m ≢ w
   not_found n m e =
-      let none = left-sum basis cs (All-weaker (Reduces basis) (λ x. left basis x ≡ 0) (λ x h. sym (value_left basis (record { value = x; chosen = 0 })) ∙ h) cs b.reduce) m in
+      let none =
+      left-sum basis cs
+      (All-weaker (Reduces basis) (λ x. left basis x ≡ 0)
+      (λ x h. sym (value_left basis (record { value = x; chosen = 0 })) ∙ h) cs b.reduce) m in
       n (ap (λ (s : Sum). s.value) is ∙ value_left basis (record { value = w; chosen = 0 }) ∙ ap (left basis) (sym e) ∙ none)

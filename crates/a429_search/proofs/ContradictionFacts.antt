@@ -32,7 +32,8 @@ use Rattle.a429_search.specs.Contradiction.{Contradicts, ContradictsAt, HasNoCon
 abbrev plain : Attempt → Attempt
 plain a = record a { acked = None }
 
-heard_start : (a : Attempt) (words : List ℕ) (n : UnitNumber) (w : ℕ) (o : Option UnitSoFar) → IsOtherStart (plain a) words n w o ≡ IsOtherStart a words n w o
+heard_start : (a : Attempt) (words : List ℕ) (n : UnitNumber) (w : ℕ) (o : Option UnitSoFar)
+    → IsOtherStart (plain a) words n w o ≡ IsOtherStart a words n w o
 heard_start a [] n w (Some u) = refl
 heard_start a [] n w None = refl
 heard_start a (v ∷ words) n w o = refl
@@ -67,11 +68,13 @@ heard_wrong bus.A (Some (Nak q)) s = refl
 heard_wrong bus.A None s = refl
 heard_wrong bus.B x s = refl
 
-heard_half : (p : Contents) (b : Bus) (w : ℕ) (x : Option Form) (s : SoFar) → IsHalfForm p.codes b w x (unheard s).attempt ≡ IsHalfForm p.codes b w x s.attempt
+heard_half : (p : Contents) (b : Bus) (w : ℕ) (x : Option Form) (s : SoFar)
+    → IsHalfForm p.codes b w x (unheard s).attempt ≡ IsHalfForm p.codes b w x s.attempt
 heard_half p bus.A w (Some (Part q)) s = refl
 heard_half p _ w _ s = refl
 
-heard_contradicts : (p : Contents) (o : Observer) (s : SoFar) (b : Bus) (w : ℕ) (x : Option Form) (r : Reason) → Contradicts p o (unheard s) b w x r ≡ Contradicts p o s b w x r
+heard_contradicts : (p : Contents) (o : Observer) (s : SoFar) (b : Bus) (w : ℕ) (x : Option Form) (r : Reason)
+    → Contradicts p o (unheard s) b w x r ≡ Contradicts p o s b w x r
 heard_contradicts p o s b w x BadBlock = ap (λ (T : Type 0). EndsBadForm p b x o.phase o.count ⊎ T) (heard_half p b w x s)
 heard_contradicts p o s b w x WrongNumber = ap (λ (T : Type 0). (¬ ComesForm p.codes b x o.last) ⊎ T) (heard_wrong b x s)
 heard_contradicts p o s b w x OtherBlock = heard_other b w x s
@@ -80,7 +83,8 @@ heard_contradicts p o s b w x NotGranted = refl
 heard_contradicts p o s b w x WrongAnswer = refl
 heard_contradicts p o s b w x NoRun = refl
 
-start_unheard : (a : Attempt) (words : List ℕ) (n : UnitNumber) (w : ℕ) (o : Option UnitSoFar) → with_start (plain a) words n w o ≡ with_start a words n w o
+start_unheard : (a : Attempt) (words : List ℕ) (n : UnitNumber) (w : ℕ) (o : Option UnitSoFar)
+    → with_start (plain a) words n w o ≡ with_start a words n w o
 start_unheard a [] n w None = refl
 start_unheard a [] n w (Some u) = refl
 start_unheard a (v ∷ words) n w o = refl
@@ -89,10 +93,15 @@ end_unheard : (a : Attempt) (w : ℕ) (o : Option UnitSoFar) → with_end (plain
 end_unheard a w None = refl
 end_unheard a w (Some u) = refl
 
-pub after_unheard : (b : Bus) (w : ℕ) (x : Option Form) (s : SoFar) → unheard (so_far_after b w x (unheard s)) ≡ unheard (so_far_after b w x s)
-after_unheard bus.A w (Some (Sot g f l)) s = ap (λ (o : Option UnitSoFar). unheard (record { attempt = (so_far_after bus.A w (Some (Sot g f l)) s).attempt; unit = o })) (start_unheard s.attempt s.attempt.words (record { file = f; ldu = l }) w s.unit)
+pub after_unheard : (b : Bus) (w : ℕ) (x : Option Form) (s : SoFar)
+    → unheard (so_far_after b w x (unheard s)) ≡ unheard (so_far_after b w x s)
+after_unheard bus.A w (Some (Sot g f l)) s =
+    ap (λ (o : Option UnitSoFar). unheard (record { attempt = (so_far_after bus.A w (Some (Sot g f l)) s).attempt; unit = o }))
+    (start_unheard s.attempt s.attempt.words (record { file = f; ldu = l }) w s.unit)
 after_unheard bus.A w (Some (Part q)) s = refl
-after_unheard bus.A w (Some (Eot f c)) s = ap (λ (o : Option UnitSoFar). unheard (record { attempt = (so_far_after bus.A w (Some (Eot f c)) s).attempt; unit = o })) (end_unheard s.attempt w s.unit)
+after_unheard bus.A w (Some (Eot f c)) s =
+    ap (λ (o : Option UnitSoFar). unheard (record { attempt = (so_far_after bus.A w (Some (Eot f c)) s).attempt; unit = o }))
+    (end_unheard s.attempt w s.unit)
 after_unheard bus.A w (Some (Rts n)) s = refl
 after_unheard bus.A w (Some (Cts n)) s = refl
 after_unheard bus.A w (Some (Ack f l)) s = refl
@@ -111,18 +120,22 @@ after_unheard bus.B w None s = refl
 
 -- ---- at a place of a recording
 
-so_far_more : (p : Contents) (items : List Seen) (n : ℕ) (i : Seen) (s : SoFar) → slice_get items n ≡ Some i → so_far_from p s (take (suc n) items) ≡ so_far_after i.bus i.word (form_of p.codes i.bus i.word) (so_far_from p s (take n items))
+so_far_more : (p : Contents) (items : List Seen) (n : ℕ) (i : Seen) (s : SoFar) → slice_get items n ≡ Some i
+    → so_far_from p s (take (suc n) items) ≡ so_far_after i.bus i.word (form_of p.codes i.bus i.word) (so_far_from p s (take n items))
 so_far_more p [] n i s at = absurd (cc at)
 so_far_more p (x ∷ items) zero i s at = ap (λ (j : Seen). so_far_after j.bus j.word (form_of p.codes j.bus j.word) s) (cc at)
 so_far_more p (x ∷ items) (suc n) i s at = so_far_more p items n i (so_far_after x.bus x.word (form_of p.codes x.bus x.word) s) at
 
 -- the data words of the attempt after one more word
-added : (c : Codes) (w : ℕ) (o : Option Form) (words : List ℕ) → form_of c bus.A w ≡ o → data_words c (words ++ w ∷ []) ≡ data_words c words ++ data_first w o []
+added : (c : Codes) (w : ℕ) (o : Option Form) (words : List ℕ)
+    → form_of c bus.A w ≡ o → data_words c (words ++ w ∷ []) ≡ data_words c words ++ data_first w o []
 added c w o words e = data-append c words (w ∷ []) ∙ ap (λ y. data_words c words ++ data_first w y []) e
 
-data_more : (c : Codes) (b : Bus) (w : ℕ) (x : Option Form) (s : SoFar) → form_of c b w ≡ x → data_after b w x (data_words c s.attempt.words) ≡ data_words c (so_far_after b w x s).attempt.words
+data_more : (c : Codes) (b : Bus) (w : ℕ) (x : Option Form) (s : SoFar)
+    → form_of c b w ≡ x → data_after b w x (data_words c s.attempt.words) ≡ data_words c (so_far_after b w x s).attempt.words
 data_more c bus.A w (Some (Rts n)) s e = refl
-data_more c bus.A w (Some (Sot g f l)) s e = sym (added c w (Some (Sot g f l)) s.attempt.words e ∙ append-nil (data_words c s.attempt.words))
+data_more c bus.A w (Some (Sot g f l)) s e =
+    sym (added c w (Some (Sot g f l)) s.attempt.words e ∙ append-nil (data_words c s.attempt.words))
 data_more c bus.A w (Some (Part q)) s e = sym (added c w (Some (Part q)) s.attempt.words e)
 data_more c bus.A w (Some (Eot f k)) s e = sym (added c w (Some (Eot f k)) s.attempt.words e ∙ append-nil (data_words c s.attempt.words))
 data_more c bus.A w (Some (Cts n)) s e = refl
@@ -150,13 +163,19 @@ pub record IsAt (p : Contents) (items : List Seen) (n : ℕ) (i : Seen) (x : Opt
   pub item : slice_get items n ≡ Some i
   pub form_is : form_of p.codes i.bus i.word ≡ x
 
-pub is_at : (p : Contents) (items : List Seen) (n : ℕ) (i : Seen) (h : DecodedWord) → slice_get items n ≡ Some i → IsHeardAt p.codes items n h → IsAt p items n i h.form
+pub is_at : (p : Contents) (items : List Seen) (n : ℕ) (i : Seen) (h : DecodedWord)
+    → slice_get items n ≡ Some i → IsHeardAt p.codes items n h → IsAt p items n i h.form
 is_at p items n i h at k =
     let same : k.item ≡ i = cc (k.is, at) in
     record { item = at; form_is = subst (λ (j : Seen). form_of p.codes j.bus j.word ≡ h.form) same k.form_is }
 
-contradicts_here : (p : Contents) (items : List Seen) (n : ℕ) (i : Seen) (r : Reason) → slice_get items n ≡ Some i → ContradictsAt p items n r ≡ Contradicts p (observed p (take n items) at_first) (so_far p (take n items)) i.bus i.word (form_of p.codes i.bus i.word) r
-contradicts_here p items n i BadBlock at = rw at (ap (λ (a : Attempt). EndsBadForm p i.bus (form_of p.codes i.bus i.word) (observed p (take n items) at_first).phase (observed p (take n items) at_first).count ⊎ IsHalfForm p.codes i.bus i.word (form_of p.codes i.bus i.word) a) (sym (so_far_latest p (take n items))))
+contradicts_here : (p : Contents) (items : List Seen) (n : ℕ) (i : Seen) (r : Reason) → slice_get items n ≡ Some i
+    → ContradictsAt p items n r
+    ≡ Contradicts p (observed p (take n items) at_first) (so_far p (take n items)) i.bus i.word (form_of p.codes i.bus i.word) r
+contradicts_here p items n i BadBlock at =
+    rw at (ap (λ (a : Attempt).
+    EndsBadForm p i.bus (form_of p.codes i.bus i.word) (observed p (take n items) at_first).phase (observed p (take n items) at_first).count
+    ⊎ IsHalfForm p.codes i.bus i.word (form_of p.codes i.bus i.word) a) (sym (so_far_latest p (take n items))))
 contradicts_here p items n i WrongNumber at = rw at refl
 contradicts_here p items n i OtherBlock at = rw at refl
 contradicts_here p items n i NoForm at = refl
@@ -164,11 +183,13 @@ contradicts_here p items n i NotGranted at = refl
 contradicts_here p items n i WrongAnswer at = refl
 contradicts_here p items n i NoRun at = refl
 
-pub contradicts_at : (p : Contents) (items : List Seen) (n : ℕ) (i : Seen) (x : Option Form) (o : Observer) (s : SoFar) (parts : List ℕ) (r : Reason) → IsAt p items n i x → Witnesses p items n o s parts → ContradictsAt p items n r ≡ Contradicts p o s i.bus i.word x r
+pub contradicts_at : (p : Contents) (items : List Seen) (n : ℕ) (i : Seen) (x : Option Form) (o : Observer) (s : SoFar) (parts : List ℕ)
+    (r : Reason) → IsAt p items n i x → Witnesses p items n o s parts → ContradictsAt p items n r ≡ Contradicts p o s i.bus i.word x r
 contradicts_at p items n i x o s parts r at w =
     contradicts_here p items n i r at.item
     ∙ sym (heard_contradicts p (observed p (take n items) at_first) (so_far p (take n items)) i.bus i.word (form_of p.codes i.bus i.word) r)
-    ∙ ap (λ (y : Option Form). Contradicts p (observed p (take n items) at_first) (unheard (so_far p (take n items))) i.bus i.word y r) at.form_is
+    ∙ ap (λ (y : Option Form). Contradicts p (observed p (take n items) at_first) (unheard (so_far p (take n items))) i.bus i.word y r)
+    at.form_is
     ∙ ap (λ (q : Observer). Contradicts p q (unheard (so_far p (take n items))) i.bus i.word x r) (sym w.observer)
     ∙ ap (λ (t : SoFar). Contradicts p o t i.bus i.word x r) (sym w.so_far)
     ∙ heard_contradicts p o s i.bus i.word x r
@@ -176,30 +197,42 @@ contradicts_at p items n i x o s parts r at w =
 cases_le : (k n : ℕ) → k ≤ n → (k < n) ⊎ (k ≡ n)
 cases_le k n l = elim (cases_order k n) [ inl e ↦ inr e | inr (inl m) ↦ inl m | inr (inr g) ↦ absurd (omega (arith, l, g)) ]
 
-pub witnesses_more : (p : Contents) (items : List Seen) (n : ℕ) (i : Seen) (x : Option Form) (o q : Observer) (s t : SoFar) (parts after : List ℕ) → IsAt p items n i x → Witnesses p items n o s parts → q ≡ sees p i o → unheard t ≡ unheard (so_far_after i.bus i.word x s) → after ≡ data_after i.bus i.word x parts → ((r : Reason) → ¬ Contradicts p o s i.bus i.word x r) → Witnesses p items (n + 1) q t after
+pub witnesses_more : (p : Contents) (items : List Seen) (n : ℕ) (i : Seen) (x : Option Form) (o q : Observer) (s t : SoFar)
+    (parts after : List ℕ)
+    → IsAt p items n i x → Witnesses p items n o s parts → q ≡ sees p i o → unheard t ≡ unheard (so_far_after i.bus i.word x s)
+    → after ≡ data_after i.bus i.word x parts → ((r : Reason) → ¬ Contradicts p o s i.bus i.word x r) → Witnesses p items (n + 1) q t after
 witnesses_more p items n i x o q s t parts after at w seen shown added none =
     let one : n + 1 ≡ suc n = omega arith in
     rw one (record {
       observer = seen ∙ ap (sees p i) w.observer ∙ sym (observed_more p items n i at_first at.item);
-      so_far = shown ∙ sym (after_unheard i.bus i.word x s) ∙ ap (λ (z : SoFar). unheard (so_far_after i.bus i.word x z)) w.so_far ∙ after_unheard i.bus i.word x (so_far p (take n items)) ∙ ap (λ (y : Option Form). unheard (so_far_after i.bus i.word y (so_far p (take n items)))) (sym at.form_is) ∙ ap unheard (sym (so_far_more p items n i none_so_far at.item));
-      words = added ∙ ap (data_after i.bus i.word x) w.words ∙ data_more p.codes i.bus i.word x s at.form_is ∙ sym (ap (λ (z : SoFar). data_words p.codes z.attempt.words) shown);
+      so_far = shown ∙ sym (after_unheard i.bus i.word x s) ∙ ap (λ (z : SoFar). unheard (so_far_after i.bus i.word x z)) w.so_far
+          ∙ after_unheard i.bus i.word x (so_far p (take n items))
+          ∙ ap (λ (y : Option Form). unheard (so_far_after i.bus i.word y (so_far p (take n items)))) (sym at.form_is)
+          ∙ ap unheard (sym (so_far_more p items n i none_so_far at.item));
+      words = added ∙ ap (data_after i.bus i.word x) w.words ∙ data_more p.codes i.bus i.word x s at.form_is
+          ∙ sym (ap (λ (z : SoFar). data_words p.codes z.attempt.words) shown);
       none = λ k l r. upto k r (omega (arith, l));
     })
   where
     upto : (k : ℕ) (r : Reason) → k ≤ n → ¬ ContradictsAt p items k r
     upto k r l h = elim (cases_le k n l) [
       | inl less ↦ w.none k less r h
-      | inr same ↦ none r (subst (λ (T : Type 0). T) (contradicts_at p items n i x o s parts r at w) (subst (λ (j : ℕ). ContradictsAt p items j r) same h))
+      | inr same ↦
+          none r
+          (subst (λ (T : Type 0). T) (contradicts_at p items n i x o s parts r at w) (subst (λ (j : ℕ). ContradictsAt p items j r) same h))
     ]
 
 -- the word at a place is allowed
-pub allowed_at : (p : Contents) (items : List Seen) (n : ℕ) (i : Seen) (o : Observer) (s : SoFar) (parts : List ℕ) → slice_get items n ≡ Some i → AreAllowedUpTo p items (length items) → Witnesses p items n o s parts → Allows p o i
+pub allowed_at : (p : Contents) (items : List Seen) (n : ℕ) (i : Seen) (o : Observer) (s : SoFar) (parts : List ℕ)
+    → slice_get items n ≡ Some i → AreAllowedUpTo p items (length items) → Witnesses p items n o s parts → Allows p o i
 allowed_at p items n i o s parts at may w =
-    let here : AllowsNext p (observed p (take n items) at_first) (Some i) = subst (AllowsNext p (observed p (take n items) at_first)) at (may n (slice_get_within items n i at)) in
+    let here : AllowsNext p (observed p (take n items) at_first) (Some i) =
+    subst (AllowsNext p (observed p (take n items) at_first)) at (may n (slice_get_within items n i at)) in
     subst (λ (q : Observer). Allows p q i) (sym w.observer) here
 
 -- where each reason that holds in one way holds in another, too
-pub none_before : (Holds Other : Reason → Type 0) → ((r : Reason) → Holds r → Other r) → (r : Reason) → HasNoneBefore Other r → HasNoneBefore Holds r
+pub none_before : (Holds Other : Reason → Type 0) → ((r : Reason) → Holds r → Other r) → (r : Reason) → HasNoneBefore Other r
+    → HasNoneBefore Holds r
 none_before Holds Other f BadBlock h = tt
 none_before Holds Other f WrongNumber h = λ k. h (f BadBlock k)
 none_before Holds Other f OtherBlock h = ((λ k. h.0 (f BadBlock k)), (λ k. h.1 (f WrongNumber k)))

@@ -1,7 +1,7 @@
 -- Verdicts that are given before a search.
 use Rattle.std.proofs.lemmas.Bool.{cases_order}
-use Rattle.std.proofs.lemmas.Option.{slice_get_past}
-use Rattle.std.proofs.Common.{◌≡◌, ◌⊎◌, ℕ, zero, suc, ◌+◌, ◌<◌, ◌≤◌, List, [], ◌∷◌, ◌++◌, length, take, drop, Option, Some, None, slice_get, refl, sym, ap, ◌∙◌, subst, inl, inr, arith}
+use Rattle.std.proofs.lemmas.Option.{slice_get_past, slice_get_within}
+use Rattle.std.proofs.Common.{◌≡◌, ◌⊎◌, ℕ, zero, suc, ◌+◌, ◌<◌, ◌≤◌, List, [], ◌∷◌, ◌++◌, length, take, drop, Option, Some, None, IfSome, unwrap_or, slice_get, refl, sym, ap, ◌∙◌, subst, inl, inr, append-nil, arith}
 use Rattle.a429_profile.specs.Profile.{Contents}
 use Rattle.a429_profile.specs.declared.codes.Codes.{Codes}
 use Rattle.a429_ldu.specs.declared.forms.Form.TheVariants.{Rts, Cts, Ack, Nak, Sot, Part, Eot}
@@ -16,16 +16,21 @@ use Rattle.a429_link.specs.Observer.{AllowsNext, at_first, observed}
 use Rattle.a429_link.specs.Run.{BeginsARun}
 use Rattle.a429_link.specs.WholeBlock.{ComesNext, EndsBad, IsHalfNext}
 use Rattle.a429_record.specs.declared.entry.Entry.{Entry}
-use Rattle.a429_cert.specs.Explained.{IsExplained, items_of}
+use Rattle.a429_cert.specs.Explained.{AreInSomeRun, IsExplained, items_of}
 use Rattle.a429_cert.proofs.ExplainedFacts.{in_some_run}
 use Rattle.a429_explain.specs.declared.verdict.Reason.{Reason}
 use Rattle.a429_explain.specs.declared.verdict.Reason.TheVariants.{NoForm, NotGranted, WrongAnswer, BadBlock, WrongNumber, OtherBlock, NoRun}
-use Rattle.a429_explain.specs.declared.verdict.Verdict.TheVariants.{Impossible}
+use Rattle.a429_explain.specs.declared.verdict.Doubt.{Doubt}
+use Rattle.a429_explain.specs.declared.verdict.Doubt.TheVariants.{NeverWhole, NotOneBlock, NotReplayed, OutOfSteps}
+use Rattle.a429_explain.specs.declared.verdict.Verdict.TheVariants.{Impossible, Unexplained}
+use Rattle.a429_explain.specs.Decoded.{sight_at}
+use Rattle.a429_explain.specs.Stop.{IsDoubtAt, IsDoubtOf}
+use Rattle.a429_explain.specs.Verdict.{IsFirst}
 use Rattle.a429_explain.specs.Walk.{AreAllowedUpTo, FitsAt, FitsSight}
 use Rattle.a429_search.specs.declared.contradiction.Contradiction.{Contradiction}
 use Rattle.a429_search.specs.Contradiction.{ContradictsAt, HasNoContradiction, HasNoneBefore, HasNoRun}
 use Rattle.a429_search.proofs.ContradictionFacts.{none_before}
-use Rattle.a429_search.specs.Deciding.{HasNoReason, IsFirstReasonAt, IsImpossibleBy, IsNoRun, IsReasonAt}
+use Rattle.a429_search.specs.Deciding.{HasDoubt, HasNoReason, IsFirstReasonAt, IsImpossibleBy, IsNoRun, IsReasonAt}
 
 -- ---- the first words of a recording
 
@@ -48,7 +53,8 @@ ContradictsNext p before next WrongNumber = (¬ ComesNext p (observed p before a
 ContradictsNext p before next OtherBlock = IsOtherNext p (so_far p before) next
 ContradictsNext p before next reason = ⊥
 
-as_next : (p : Contents) (items : List Seen) (k : ℕ) (r : Reason) → ContradictsAt p items k r ≡ ContradictsNext p (take k items) (slice_get items k) r
+as_next : (p : Contents) (items : List Seen) (k : ℕ) (r : Reason)
+    → ContradictsAt p items k r ≡ ContradictsNext p (take k items) (slice_get items k) r
 as_next p items k BadBlock = refl
 as_next p items k WrongNumber = refl
 as_next p items k OtherBlock = refl
@@ -58,7 +64,8 @@ as_next p items k WrongAnswer = refl
 as_next p items k NoRun = refl
 
 -- the same of the first n words
-in_first : (p : Contents) (items : List Seen) (n k : ℕ) (r : Reason) → k < n → ContradictsAt p (take n items) k r ≡ ContradictsAt p items k r
+in_first : (p : Contents) (items : List Seen) (n k : ℕ) (r : Reason)
+    → k < n → ContradictsAt p (take n items) k r ≡ ContradictsAt p items k r
 in_first p items n k r l =
     as_next p (take n items) k r
     ∙ ap (λ (xs : List Seen). ContradictsNext p xs (slice_get (take n items) k) r) (take_first k n items (omega arith))
@@ -85,7 +92,9 @@ contradicts_within p items k r h = elim (cases_order k (length items)) [
 ]
   where
     past : length items ≤ k → k < length items
-    past l = absurd (contradicts_none p (take k items) r (subst (λ (o : Option Seen). ContradictsNext p (take k items) o r) (slice_get_past items k l) (subst (λ (T : Type 0). T) (as_next p items k r) h)))
+    past l =
+        absurd (contradicts_none p (take k items) r (subst (λ (o : Option Seen). ContradictsNext p (take k items) o r)
+        (slice_get_past items k l) (subst (λ (T : Type 0). T) (as_next p items k r) h)))
 
 fits_within : (p : Contents) (items : List Seen) (k : ℕ) (r : Reason) → FitsAt p.codes (slice_get items k) r → k < length items
 fits_within p items k r h = elim (cases_order k (length items)) [
@@ -98,7 +107,8 @@ fits_within p items k r h = elim (cases_order k (length items)) [
     past l = absurd (subst (λ (o : Option Seen). FitsAt p.codes o r) (slice_get_past items k l) h)
 
 -- where each of the first n words is allowed, and none contradicts those before it, no reason holds
-pub no_reason : (p : Contents) (items : List Seen) (n : ℕ) → AreAllowedUpTo p items n → HasNoContradiction p items n → (k : ℕ) (r : Reason) → k < n → ¬ IsReasonAt p items k r
+pub no_reason : (p : Contents) (items : List Seen) (n : ℕ)
+    → AreAllowedUpTo p items n → HasNoContradiction p items n → (k : ℕ) (r : Reason) → k < n → ¬ IsReasonAt p items k r
 no_reason p items n may none k r l (inl h) = h.0 (may k l)
 no_reason p items n may none k r l (inr h) = none k l r h
 
@@ -106,7 +116,8 @@ pub reason_within : (p : Contents) (items : List Seen) (k : ℕ) (r : Reason) �
 reason_within p items k r (inl h) = fits_within p items k r h.1
 reason_within p items k r (inr h) = contradicts_within p items k r h
 
-pub at_least : (p : Contents) (items : List Seen) (n : ℕ) → AreAllowedUpTo p items n → HasNoContradiction p items n → (k : ℕ) (r : Reason) → IsReasonAt p items k r → n ≤ k
+pub at_least : (p : Contents) (items : List Seen) (n : ℕ)
+    → AreAllowedUpTo p items n → HasNoContradiction p items n → (k : ℕ) (r : Reason) → IsReasonAt p items k r → n ≤ k
 at_least p items n may none k r h = elim (cases_order k n) [
   | inl e ↦ omega (arith, e)
   | inr (inl l) ↦ absurd (no_reason p items n may none k r l h)
@@ -114,15 +125,18 @@ at_least p items n may none k r h = elim (cases_order k n) [
 ]
 
 -- no word of the recording is refused, and none contradicts
-pub no_reason_at_all : (p : Contents) (items : List Seen) → HasNoReason p items (length items) → (k : ℕ) (r : Reason) → ¬ IsReasonAt p items k r
+pub no_reason_at_all : (p : Contents) (items : List Seen)
+    → HasNoReason p items (length items) → (k : ℕ) (r : Reason) → ¬ IsReasonAt p items k r
 no_reason_at_all p items (may, none) k r h = no_reason p items (length items) may none k r (reason_within p items k r h) h
 
 -- ---- in the first n words
 
-pub allowed_first : (p : Contents) (items : List Seen) (n : ℕ) → AreAllowedUpTo p items n → AreAllowedUpTo p (take n items) (length (take n items))
+pub allowed_first : (p : Contents) (items : List Seen) (n : ℕ)
+    → AreAllowedUpTo p items n → AreAllowedUpTo p (take n items) (length (take n items))
 allowed_first p items n may k l =
     let m : k < n = omega (arith, l, take_short n items) in
-    subst (λ (xs : List Seen). AllowsNext p (observed p xs at_first) (slice_get (take n items) k)) (sym (take_first k n items (omega arith)))
+    subst (λ (xs : List Seen). AllowsNext p (observed p xs at_first) (slice_get (take n items) k))
+    (sym (take_first k n items (omega arith)))
     (subst (λ (o : Option Seen). AllowsNext p (observed p (take k items) at_first) o) (sym (get_first k n items m)) (may k m))
   where
     take_short : (n : ℕ) (xs : List Seen) → length (take n xs) ≤ n
@@ -135,7 +149,8 @@ take_length zero xs l = refl
 take_length (suc n) [] l = absurd (omega arith)
 take_length (suc n) (x ∷ xs) l = ap suc (take_length n xs (omega arith))
 
-pub none_first : (p : Contents) (items : List Seen) (n : ℕ) → n ≤ length items → HasNoContradiction p (take n items) (length (take n items)) → HasNoContradiction p items n
+pub none_first : (p : Contents) (items : List Seen) (n : ℕ)
+    → n ≤ length items → HasNoContradiction p (take n items) (length (take n items)) → HasNoContradiction p items n
 none_first p items n m none k l r h =
     none k (omega (arith, take_length n items m)) r (subst (λ (T : Type 0). T) (sym (in_first p items n k r l)) h)
 
@@ -143,7 +158,8 @@ none_first p items n m none k l r h =
 pub record IsFound (p : Contents) (items : List Seen) (n : ℕ) (c : Contradiction) : Type 0 where
   pub inside : c.entry < length items
   pub within : c.entry < n
-  pub how : (ContradictsAt p items c.entry c.reason × HasNoneBefore (ContradictsAt p items c.entry) c.reason) ⊎ ((c.reason ≡ NoRun) × HasNoContradiction p items (c.entry + 1))
+  pub how : (ContradictsAt p items c.entry c.reason × HasNoneBefore (ContradictsAt p items c.entry) c.reason)
+      ⊎ ((c.reason ≡ NoRun) × HasNoContradiction p items (c.entry + 1))
   pub before : HasNoContradiction p items c.entry
   pub no_run : HasNoRun p items c.entry
 
@@ -151,15 +167,21 @@ none_here : (p : Contents) (items : List Seen) (n k : ℕ) → k ≤ n → HasNo
 none_here p items n k l none j m r h = none j m r (subst (λ (T : Type 0). T) (sym (in_first p items n j r (omega arith))) h)
 
 -- it is one of the recording
-pub found_first : (p : Contents) (items : List Seen) (n : ℕ) (c : Contradiction) → n ≤ length items → IsNoRun p (take n items) c → IsFound p items n c
+pub found_first : (p : Contents) (items : List Seen) (n : ℕ) (c : Contradiction)
+    → n ≤ length items → IsNoRun p (take n items) c → IsFound p items n c
 found_first p items n c m is =
     let l : c.entry < n = omega (arith, is.inside, take_length n items m) in
-    let no_run : HasNoRun p items c.entry = λ run. is.no_run (subst (λ (xs : List Seen). BeginsARun p xs) (sym (take_first (c.entry + 1) n items (omega arith))) run) in
+    let no_run : HasNoRun p items c.entry =
+    λ run. is.no_run (subst (λ (xs : List Seen). BeginsARun p xs) (sym (take_first (c.entry + 1) n items (omega arith))) run) in
     elim is.how [
       | inl first ↦ record {
         inside = omega arith;
         within = l;
-        how = inl (subst (λ (T : Type 0). T) (in_first p items n c.entry c.reason l) first.holds, none_before (ContradictsAt p items c.entry) (ContradictsAt p (take n items) c.entry) (λ k h. subst (λ (T : Type 0). T) (sym (in_first p items n c.entry k l)) h) c.reason first.ranked);
+        how = inl (
+          subst (λ (T : Type 0). T) (in_first p items n c.entry c.reason l) first.holds,
+          none_before (ContradictsAt p items c.entry) (ContradictsAt p (take n items) c.entry)
+              (λ k h. subst (λ (T : Type 0). T) (sym (in_first p items n c.entry k l)) h) c.reason first.ranked,
+        );
         before = none_here p items n c.entry (omega arith) first.before;
         no_run = no_run;
       }
@@ -177,7 +199,8 @@ same_length [] = refl
 same_length (e ∷ es) = ap suc (same_length es)
 
 -- one that is found before a contradiction
-pub no_run_before : (p : Contents) (items : List Seen) (n e : ℕ) → n ≤ length items → HasNoContradiction p items n → e < length (take n items) → HasNoRun p (take n items) e → IsNoRun p items (record { entry = e; reason = NoRun })
+pub no_run_before : (p : Contents) (items : List Seen) (n e : ℕ) → n ≤ length items → HasNoContradiction p items n
+    → e < length (take n items) → HasNoRun p (take n items) e → IsNoRun p items (record { entry = e; reason = NoRun })
 no_run_before p items n e m none l no_run =
     let within : e < n = omega (arith, l, take_length n items m) in
     record {
@@ -196,12 +219,21 @@ take_drop zero xs = refl
 take_drop (suc n) [] = refl
 take_drop {X} (suc n) (x ∷ xs) = ap (λ (l : List X). x ∷ l) (take_drop n xs)
 
-begins_first : (p : Contents) (items : List Seen) (certificate : List ℕ) (files : List FileBytes) → IsExplained p certificate items files → (n : ℕ) → BeginsARun p (take n items)
+begins_first : (p : Contents) (items : List Seen) (certificate : List ℕ) (files : List FileBytes)
+    → IsExplained p certificate items files → (n : ℕ) → BeginsARun p (take n items)
 begins_first p items certificate files h n =
     let r = in_some_run p certificate items files h in
-    record { first = r.first; byte = r.byte; steps = r.steps; run = r.run; more = drop n items; records = r.recorded ∙ sym (take_drop n items) }
+    record {
+      first = r.first;
+      byte = r.byte;
+      steps = r.steps;
+      run = r.run;
+      more = drop n items;
+      records = r.recorded ∙ sym (take_drop n items);
+    }
 
-pub explained_none : (p : Contents) (items : List Seen) (certificate : List ℕ) (files : List FileBytes) → IsExplained p certificate items files → AreAllowedUpTo p items (length items)
+pub explained_none : (p : Contents) (items : List Seen) (certificate : List ℕ) (files : List FileBytes)
+    → IsExplained p certificate items files → AreAllowedUpTo p items (length items)
     → ((items : List Seen) (i : ℕ) (r : Reason) → ContradictsAt p items i r → HasNoRun p items i)
     → (k : ℕ) (r : Reason) → ¬ IsReasonAt p items k r
 explained_none p items certificate files is may law k r (inl h) = h.0 (may k (fits_within p items k r h.1))
@@ -242,12 +274,44 @@ first_of_refused c (Some i) Holds NotGranted h = tt
 first_of_refused c (Some i) Holds WrongAnswer h = tt
 first_of_refused c (Some i) Holds NoRun h = tt
 
-pub impossible_by : (p : Contents) (items : List Seen) (n : ℕ) (c : Contradiction) → AreAllowedUpTo p items n → IsFound p items n c → IsImpossibleBy p items (Impossible c.entry c.reason)
+pub impossible_by : (p : Contents) (items : List Seen) (n : ℕ) (c : Contradiction)
+    → AreAllowedUpTo p items n → IsFound p items n c → IsImpossibleBy p items (Impossible c.entry c.reason)
 impossible_by p items n c may h = (h.inside, how h.how, h.no_run)
   where
-    how : (ContradictsAt p items c.entry c.reason × HasNoneBefore (ContradictsAt p items c.entry) c.reason) ⊎ ((c.reason ≡ NoRun) × HasNoContradiction p items (c.entry + 1)) → IsFirstReasonAt p items c.entry c.reason ⊎ ((c.reason ≡ NoRun) × HasNoReason p items (c.entry + 1))
+    how : (ContradictsAt p items c.entry c.reason × HasNoneBefore (ContradictsAt p items c.entry) c.reason)
+        ⊎ ((c.reason ≡ NoRun) × HasNoContradiction p items (c.entry + 1))
+        → IsFirstReasonAt p items c.entry c.reason ⊎ ((c.reason ≡ NoRun) × HasNoReason p items (c.entry + 1))
     how (inl (holds, ranked)) = inl (inr holds, ranked)
     how (inr (is, none)) = inr (is, (less_allowed p items n (c.entry + 1) (omega (arith, h.within)) may, none))
 
-pub first_by : (p : Contents) (items : List Seen) (n : ℕ) (c : Contradiction) → AreAllowedUpTo p items n → IsFound p items n c → (k : ℕ) (r : Reason) → IsReasonAt p items k r → c.entry ≤ k
+pub first_by : (p : Contents) (items : List Seen) (n : ℕ) (c : Contradiction)
+    → AreAllowedUpTo p items n → IsFound p items n c → (k : ℕ) (r : Reason) → IsReasonAt p items k r → c.entry ≤ k
 first_by p items n c may h = at_least p items c.entry (less_allowed p items n c.entry (omega (arith, h.within)) may) h.before
+
+-- ---- doubts
+
+pub doubt_of_check : (p : Contents) (items : List Seen) (i : ℕ) (d : Doubt) → IsFirst p items (Unexplained i d) → HasDoubt p items
+doubt_of_check p items i d is = record { entry = i; doubt = d; is = is }
+
+word_of_doubt : (c : Codes) (o : Option Seen) (d : Doubt) → IsDoubtOf (sight_at c o) d → (x : Seen) × (o ≡ Some x)
+word_of_doubt c None d h = absurd h
+word_of_doubt c (Some x) d h = (x, refl)
+
+-- a doubt is at an item
+doubt_inside : (c : Codes) (items : List Seen) (i : ℕ) (d : Doubt) → IsDoubtAt c items i d → i < length items
+doubt_inside c items i NotReplayed h = h
+doubt_inside c items i OutOfSteps h = h
+doubt_inside c items i NeverWhole h = let w = word_of_doubt c (slice_get items i) NeverWhole h in slice_get_within items i w.0 w.1
+doubt_inside c items i NotOneBlock h = let w = word_of_doubt c (slice_get items i) NotOneBlock h in slice_get_within items i w.0 w.1
+
+-- and so is the entry at which a search was cut short, or else the one that `check` doubts
+pub ended_inside : (c : Codes) (items : List Seen) (at : Option ℕ) (entry : ℕ) (d : Doubt) {end : ℕ}
+    → IfSome at (λ i. i < length items) → IsDoubtAt c items entry d → end ≡ unwrap_or at entry → end < length items
+ended_inside c items None entry d inside doubt is = subst (λ k. k < length items) (sym is) (doubt_inside c items entry d doubt)
+ended_inside c items (Some i) entry d inside doubt is = subst (λ k. k < length items) (sym is) inside
+
+-- ---- a run that is written down
+
+pub some_begins : (p : Contents) (items : List Seen) (files : List FileBytes) → AreInSomeRun p items files → BeginsARun p items
+some_begins p items files r =
+    record { first = r.first; byte = r.byte; steps = r.steps; run = r.run; more = []; records = r.recorded ∙ sym (append-nil items) }

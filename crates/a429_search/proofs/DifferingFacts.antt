@@ -7,12 +7,15 @@ use Rattle.a429_search.specs.Order.{words_at, HasEach}
 use Rattle.a429_search.proofs.SubsequenceFacts.{sub_trans}
 
 -- in place of a list that it has
-pub each_replaced : (lists : List (List ℕ)) (at : ℕ) (xs zs : List ℕ) → at < length lists → IsSubsequenceOf (words_at lists at) xs → HasEach zs (set lists at xs) → HasEach zs lists × IsSubsequenceOf xs zs
+pub each_replaced : (lists : List (List ℕ)) (at : ℕ) (xs zs : List ℕ)
+    → at < length lists → IsSubsequenceOf (words_at lists at) xs → HasEach zs (set lists at xs) → HasEach zs lists × IsSubsequenceOf xs zs
 each_replaced lists at xs zs l s each =
     let long : length (set lists at xs) ≡ length lists = length-set lists at xs in
     let here : IsSubsequenceOf xs zs = subst (λ ys. IsSubsequenceOf ys zs) (get_or-set_same lists at xs [] l) (each at [] (omega arith)) in (
       (λ k d m. elim (cases_eq k at) [
-        | inl same ↦ sub_trans (get_or lists k d) xs zs (subst (λ ys. IsSubsequenceOf ys xs) (ap (λ (j : ℕ). get_or lists j []) (sym same) ∙ get_or_default lists k [] d m) s) here
+        | inl same ↦
+            sub_trans (get_or lists k d) xs zs
+            (subst (λ ys. IsSubsequenceOf ys xs) (ap (λ (j : ℕ). get_or lists j []) (sym same) ∙ get_or_default lists k [] d m) s) here
         | inr other ↦ subst (λ ys. IsSubsequenceOf ys zs) (get_or-set_other lists at k xs d other) (each k d (omega arith))
       ]),
       here,

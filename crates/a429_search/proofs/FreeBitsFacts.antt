@@ -25,9 +25,13 @@ bits-sums a b (x ∷ bs) =
     ∙ ap (bit_xor (bit_xor (bit_xor (a % 256) (b % 256)) x)) (xor_comm x 0)
     ∙ cancel (bit_xor (a % 256) (b % 256)) 0 x
     ∙ xor_zero_r (bit_xor (a % 256) (b % 256))
-    ∙ sym (ap (λ (n : ℕ). bit_xor n (bit_xor x (b % 256))) (xor_comm x (a % 256)) ∙ ap (bit_xor (bit_xor (a % 256) x)) (xor_comm x (b % 256)) ∙ cancel (a % 256) (b % 256) x) in
-    let next : bit_xor a b / 256 ≡ bit_xor (a / 256) (b / 256) = xor_shr a b 8 in
-    (here, subst (λ n. AreSums (with_bits n bs) (with_bits 0 bs) (with_bits (a / 256) bs) (with_bits (b / 256) bs)) (sym next) (bits-sums (a / 256) (b / 256) bs))
+    ∙ sym (ap (λ (n : ℕ). bit_xor n (bit_xor x (b % 256))) (xor_comm x (a % 256))
+    ∙ ap (bit_xor (bit_xor (a % 256) x)) (xor_comm x (b % 256)) ∙ cancel (a % 256) (b % 256) x) in
+    let next : bit_xor a b / 256 ≡ bit_xor (a / 256) (b / 256) = xor_shr a b 8 in (
+      here,
+      subst (λ n. AreSums (with_bits n bs) (with_bits 0 bs) (with_bits (a / 256) bs) (with_bits (b / 256) bs)) (sym next)
+          (bits-sums (a / 256) (b / 256) bs),
+    )
 
 pub changes_more : (g : ℕ → ℕ) (j n : ℕ) → changes g j (n + 1) ≡ changes g j n ++ bit_xor (g (2 ^ (j + n))) (g 0) ∷ []
 changes_more g j zero = ap (λ (i : ℕ). bit_xor (g (2 ^ i)) (g 0) ∷ []) (omega arith)
@@ -35,7 +39,8 @@ changes_more g j (suc n) =
     let count : suc n + 1 ≡ suc (n + 1) = omega arith in
     let place : (j + 1) + n ≡ j + suc n = omega arith in
     ap (changes g j) count
-    ∙ ap (λ (xs : List ℕ). bit_xor (g (2 ^ j)) (g 0) ∷ xs) (changes_more g (j + 1) n ∙ ap (λ (i : ℕ). changes g (j + 1) n ++ bit_xor (g (2 ^ i)) (g 0) ∷ []) place)
+    ∙ ap (λ (xs : List ℕ). bit_xor (g (2 ^ j)) (g 0) ∷ xs)
+    (changes_more g (j + 1) n ∙ ap (λ (i : ℕ). changes g (j + 1) n ++ bit_xor (g (2 ^ i)) (g 0) ∷ []) place)
 
 pub length-changes : (g : ℕ → ℕ) (j n : ℕ) → length (changes g j n) ≡ n
 length-changes g j zero = refl
@@ -72,7 +77,8 @@ module _ (k : Check) (bs : List ℕ) where
 
 -- ---- clauses on a result
 
-pub some_both : {E : Type 0} (P Q R : ℕ → Type 0) (r : Result (Option ℕ) E) → ((m : ℕ) → P m → Q m → R m) → IfOk r (λ o. IfSome o P) → IfOk r (λ o. IfSome o Q) → IfOk r (λ o. IfSome o R)
+pub some_both : {E : Type 0} (P Q R : ℕ → Type 0) (r : Result (Option ℕ) E) → ((m : ℕ) → P m → Q m → R m) → IfOk r (λ o. IfSome o P)
+    → IfOk r (λ o. IfSome o Q) → IfOk r (λ o. IfSome o R)
 some_both P Q R (Ok (Some m)) f p q = f m p q
 some_both P Q R (Ok None) f p q = p
 some_both P Q R (Err e) f p q = p

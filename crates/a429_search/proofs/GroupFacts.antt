@@ -17,12 +17,15 @@ gfi_is u None h = tt
 gfi_is u (Some s) h = h
 
 -- what is known of one of two is known of the first that is there
-first_of : {X : Type 0} (Holds : X → Type 0) (x y : Option X) → IfSome x Holds → IfSome y Holds → IfSome (option_or x y) Holds
+pub first_of : {X : Type 0} (Holds : X → Type 0) (x y : Option X) → IfSome x Holds → IfSome y Holds → IfSome (option_or x y) Holds
 first_of Holds None y h k = k
 first_of Holds (Some v) y h k = h
 
-pub with_attempt : (p : Contents) (u : LduValue) (old new : GroupPieces) (a : Attempt) {gfi : Option ℕ} → new.count ≡ old.count → new.gfi ≡ option_or old.gfi gfi → gfi ≡ gfi_of a.start → new.end ≡ option_or old.end a.end
-    → (HasEach u.words (lists_of old.attempts.items) → IsSubsequenceOf a.words.items u.words → HasEach u.words (lists_of new.attempts.items)) → MayBeUnitOf p old u → MayBeOf p a u → MayBeUnitOf p new u
+pub with_attempt : (p : Contents) (u : LduValue) (old new : GroupPieces) (a : Attempt) {gfi : Option ℕ}
+    → new.count ≡ old.count → new.gfi ≡ option_or old.gfi gfi → gfi ≡ gfi_of a.start → new.end ≡ option_or old.end a.end
+    → (HasEach u.words (lists_of old.attempts.items) → IsSubsequenceOf a.words.items u.words
+    → HasEach u.words (lists_of new.attempts.items))
+    → MayBeUnitOf p old u → MayBeOf p a u → MayBeUnitOf p new u
 with_attempt p u old new a count gfi said end each is may =
     let IsGfi : Option ℕ → Type 0 = λ o. IfSome o (λ n. u.gfi ≡ n) in
     let IsEnd : Option EndWord → Type 0 = λ o. IfSome o (λ e. (u.flags ≡ e.flags) × (u.check ≡ e.check)) in

@@ -29,39 +29,54 @@ use Rattle.a429_search.specs.Recorded.{IsAttemptFrom, IsRecorded, IsTaken, MayBe
 
 -- ---- one more word of the block
 
-start_push : (c : Codes) (s : Option StartWord) (words : List ℕ) (w : ℕ) → start_from c s (words ++ w ∷ []) ≡ start_by (form_of c bus.A w) (start_from c s words)
+start_push : (c : Codes) (s : Option StartWord) (words : List ℕ) (w : ℕ)
+    → start_from c s (words ++ w ∷ []) ≡ start_by (form_of c bus.A w) (start_from c s words)
 start_push c s [] w = refl
 start_push c s (v ∷ words) w = start_push c (start_by (form_of c bus.A v) s) words w
 
-end_push : (c : Codes) (e : Option EndWord) (words : List ℕ) (w : ℕ) → end_from c e (words ++ w ∷ []) ≡ end_by (form_of c bus.A w) (end_from c e words)
+end_push : (c : Codes) (e : Option EndWord) (words : List ℕ) (w : ℕ)
+    → end_from c e (words ++ w ∷ []) ≡ end_by (form_of c bus.A w) (end_from c e words)
 end_push c e [] w = refl
 end_push c e (v ∷ words) w = end_push c (end_by (form_of c bus.A v) e) words w
 
 -- the attempt with it, by what it says
-with_word : (c : Codes) (a : link.Attempt) (old new : Attempt) (w : ℕ) (x : Option Form) → form_of c bus.A w ≡ x → IsRecorded c a old → new.count ≡ old.count → new.start ≡ start_by x old.start → new.words.items ≡ old.words.items ++ data_first w x [] → new.end ≡ end_by x old.end → is_some new.acknowledged ≡ is_some old.acknowledged → IsRecorded c (record a { words = a.words ++ w ∷ [] }) new
+with_word : (c : Codes) (a : link.Attempt) (old new : Attempt) (w : ℕ) (x : Option Form)
+    → form_of c bus.A w ≡ x → IsRecorded c a old → new.count ≡ old.count → new.start ≡ start_by x old.start
+    → new.words.items ≡ old.words.items ++ data_first w x [] → new.end ≡ end_by x old.end
+    → is_some new.acknowledged ≡ is_some old.acknowledged → IsRecorded c (record a { words = a.words ++ w ∷ [] }) new
 with_word c a old new w x is h count start parts end acked = record {
   count = count ∙ h.count;
-  start = start ∙ ap (start_by x) h.start ∙ ap (λ (o : Option Form). start_by o (start_from c None a.words)) (sym is) ∙ sym (start_push c None a.words w);
-  words = parts ∙ ap (λ (l : List ℕ). l ++ data_first w x []) h.words ∙ ap (λ (o : Option Form). data_words c a.words ++ data_first w o []) (sym is) ∙ sym (data-append c a.words (w ∷ []));
+  start = start ∙ ap (start_by x) h.start ∙ ap (λ (o : Option Form). start_by o (start_from c None a.words)) (sym is)
+      ∙ sym (start_push c None a.words w);
+  words = parts ∙ ap (λ (l : List ℕ). l ++ data_first w x []) h.words
+      ∙ ap (λ (o : Option Form). data_words c a.words ++ data_first w o []) (sym is) ∙ sym (data-append c a.words (w ∷ []));
   end = end ∙ ap (end_by x) h.end ∙ ap (λ (o : Option Form). end_by o (end_from c None a.words)) (sym is) ∙ sym (end_push c None a.words w);
   acked = acked ∙ h.acked;
 }
 
-unmoved : (c : Codes) (a : link.Attempt) (old new : Attempt) → IsRecorded c a old → new.count ≡ old.count → new.start ≡ old.start → new.words.items ≡ old.words.items → new.end ≡ old.end → is_some new.acknowledged ≡ is_some old.acknowledged → IsRecorded c a new
-unmoved c a old new h count start parts end acked = record { count = count ∙ h.count; start = start ∙ h.start; words = parts ∙ h.words; end = end ∙ h.end; acked = acked ∙ h.acked }
+unmoved : (c : Codes) (a : link.Attempt) (old new : Attempt) → IsRecorded c a old → new.count ≡ old.count → new.start ≡ old.start
+    → new.words.items ≡ old.words.items → new.end ≡ old.end → is_some new.acknowledged ≡ is_some old.acknowledged → IsRecorded c a new
+unmoved c a old new h count start parts end acked =
+    record { count = count ∙ h.count; start = start ∙ h.start; words = parts ∙ h.words; end = end ∙ h.end; acked = acked ∙ h.acked }
 
 -- after the next word
-pub took : (c : Codes) (a : link.Attempt) (old new : Attempt) (b : Bus) (w : ℕ) (x : Option Form) → form_of c b w ≡ x → IsTaken b w x old new → IsRecorded c a old → IsRecorded c (grown b w x a) new
-took c a old new bus.A w (Some (form.Sot g f l)) is t h = with_word c a old new w (Some (form.Sot g f l)) is h t.count t.start (t.words ∙ sym (append-nil old.words.items)) t.end t.acked
-took c a old new bus.A w (Some (form.Part s)) is t h = with_word c a old new w (Some (form.Part s)) is h t.count t.start t.words t.end t.acked
-took c a old new bus.A w (Some (form.Eot f k)) is t h = with_word c a old new w (Some (form.Eot f k)) is h t.count t.start (t.words ∙ sym (append-nil old.words.items)) t.end t.acked
+pub took : (c : Codes) (a : link.Attempt) (old new : Attempt) (b : Bus) (w : ℕ) (x : Option Form)
+    → form_of c b w ≡ x → IsTaken b w x old new → IsRecorded c a old → IsRecorded c (grown b w x a) new
+took c a old new bus.A w (Some (form.Sot g f l)) is t h =
+    with_word c a old new w (Some (form.Sot g f l)) is h t.count t.start (t.words ∙ sym (append-nil old.words.items)) t.end t.acked
+took c a old new bus.A w (Some (form.Part s)) is t h =
+    with_word c a old new w (Some (form.Part s)) is h t.count t.start t.words t.end t.acked
+took c a old new bus.A w (Some (form.Eot f k)) is t h =
+    with_word c a old new w (Some (form.Eot f k)) is h t.count t.start (t.words ∙ sym (append-nil old.words.items)) t.end t.acked
 took c a old new bus.A w (Some (form.Rts n)) is t h = unmoved c a old new h t.count t.start t.words t.end t.acked
 took c a old new bus.A w (Some (form.Cts n)) is t h = unmoved c a old new h t.count t.start t.words t.end t.acked
 took c a old new bus.A w (Some (form.Ack f l)) is t h = unmoved c a old new h t.count t.start t.words t.end t.acked
 took c a old new bus.A w (Some (form.Nak n)) is t h = unmoved c a old new h t.count t.start t.words t.end t.acked
 took c a old new bus.A w None is t h = unmoved c a old new h t.count t.start t.words t.end t.acked
-took c a old new bus.B w (Some (form.Cts n)) is t h = record { count = t.count ∙ h.count; start = t.start; words = t.words; end = t.end; acked = t.acked ∙ h.acked }
-took c a old new bus.B w (Some (form.Ack f l)) is t h = record { count = t.count ∙ h.count; start = t.start ∙ h.start; words = t.words ∙ h.words; end = t.end ∙ h.end; acked = t.acked }
+took c a old new bus.B w (Some (form.Cts n)) is t h =
+    record { count = t.count ∙ h.count; start = t.start; words = t.words; end = t.end; acked = t.acked ∙ h.acked }
+took c a old new bus.B w (Some (form.Ack f l)) is t h =
+    record { count = t.count ∙ h.count; start = t.start ∙ h.start; words = t.words ∙ h.words; end = t.end ∙ h.end; acked = t.acked }
 took c a old new bus.B w (Some (form.Rts n)) is t h = unmoved c a old new h t.count t.start t.words t.end t.acked
 took c a old new bus.B w (Some (form.Sot g f l)) is t h = unmoved c a old new h t.count t.start t.words t.end t.acked
 took c a old new bus.B w (Some (form.Part s)) is t h = unmoved c a old new h t.count t.start t.words t.end t.acked
@@ -75,13 +90,15 @@ sub_data : (c : Codes) (xs ys : List ℕ) → IsSubsequenceOf xs ys → IsSubseq
 sub_data c xs [] h = ap (data_words c) h
 sub_data c xs (y ∷ ys) (inl h) = by (form_of c bus.A y) (sub_data c xs ys h)
   where
-    by : (o : Option Form) → IsSubsequenceOf (data_words c xs) (data_words c ys) → IsSubsequenceOf (data_words c xs) (data_first y o (data_words c ys))
+    by : (o : Option Form)
+        → IsSubsequenceOf (data_words c xs) (data_words c ys) → IsSubsequenceOf (data_words c xs) (data_first y o (data_words c ys))
     by (Some (form.Part s)) h = inl h
     by _ h = h
 sub_data c xs (y ∷ ys) (inr (zs, e, h)) =
     subst (λ (l : List ℕ). IsSubsequenceOf (data_words c l) (data_words c (y ∷ ys))) (sym e) (by (form_of c bus.A y) (sub_data c zs ys h))
   where
-    by : (o : Option Form) → IsSubsequenceOf (data_words c zs) (data_words c ys) → IsSubsequenceOf (data_first y o (data_words c zs)) (data_first y o (data_words c ys))
+    by : (o : Option Form) → IsSubsequenceOf (data_words c zs) (data_words c ys)
+        → IsSubsequenceOf (data_first y o (data_words c zs)) (data_first y o (data_words c ys))
     by (Some (form.Part s)) h = inr (data_words c zs, refl, h)
     by _ h = h
 
@@ -100,17 +117,21 @@ first_end w f c _ rest e = absurd (cc e)
 
 data_parts : (p : Contents) (ws : List ℕ) → AllParts p ws → data_words p.codes ws ≡ ws
 data_parts p [] h = refl
-data_parts p (w ∷ ws) h = first_part w (form_of p.codes bus.A w) (data_words p.codes ws) h.0 ∙ ap (λ (l : List ℕ). w ∷ l) (data_parts p ws h.1)
+data_parts p (w ∷ ws) h =
+    first_part w (form_of p.codes bus.A w) (data_words p.codes ws) h.0 ∙ ap (λ (l : List ℕ). w ∷ l) (data_parts p ws h.1)
 
 -- those of a block are those of its link data unit
-data_block : (p : Contents) → IsRead p → (u : LduValue) (n : UnitNumber) → IsLdu p u → n.file ≤ 255 → n.ldu ≤ 255 → data_words p.codes (block_of p.codes u n.file n.ldu) ≡ u.words
+data_block : (p : Contents) → IsRead p → (u : LduValue) (n : UnitNumber) → IsLdu p u → n.file ≤ 255 → n.ldu ≤ 255
+    → data_words p.codes (block_of p.codes u n.file n.ldu) ≡ u.words
 data_block p good u n is file ldu =
     let f = good.fit u is in
     let s = word_number p.codes (form.Sot u.gfi n.file n.ldu) in
     let e = word_number p.codes (form.Eot u.flags u.check) in
-    first_start s u.gfi n.file n.ldu (form_of p.codes bus.A s) (data_words p.codes (u.words ++ e ∷ [])) (good.reads bus.A (Sot u.gfi n.file n.ldu) (f.gfi, file, ldu))
+    first_start s u.gfi n.file n.ldu (form_of p.codes bus.A s) (data_words p.codes (u.words ++ e ∷ []))
+    (good.reads bus.A (Sot u.gfi n.file n.ldu) (f.gfi, file, ldu))
     ∙ data-append p.codes u.words (e ∷ [])
-    ∙ ap (λ (l : List ℕ). data_words p.codes u.words ++ l) (first_end e u.flags u.check (form_of p.codes bus.A e) [] (good.reads bus.A (end_message u) (f.flags, f.check)))
+    ∙ ap (λ (l : List ℕ). data_words p.codes u.words ++ l)
+    (first_end e u.flags u.check (form_of p.codes bus.A e) [] (good.reads bus.A (end_message u) (f.flags, f.check)))
     ∙ append-nil (data_words p.codes u.words)
     ∙ data_parts p u.words f.parts
 
@@ -119,7 +140,8 @@ data_block p good u n is file ldu =
 -- ---- what its words say of the link data unit
 
 -- a start word in a block is the block's
-start_in_block : (p : Contents) → IsRead p → (u : LduValue) (n : UnitNumber) (w g f l : ℕ) → IsLdu p u → n.file ≤ 255 → n.ldu ≤ 255 → form_of p.codes bus.A w ≡ Some (form.Sot g f l) → InBlock p u n w → (g ≡ u.gfi) × (f ≡ n.file) × (l ≡ n.ldu)
+start_in_block : (p : Contents) → IsRead p → (u : LduValue) (n : UnitNumber) (w g f l : ℕ) → IsLdu p u → n.file ≤ 255 → n.ldu ≤ 255
+    → form_of p.codes bus.A w ≡ Some (form.Sot g f l) → InBlock p u n w → (g ≡ u.gfi) × (f ≡ n.file) × (l ≡ n.ldu)
 start_in_block p good u n w g f l is file ldu says (is_start e) =
     let fit = good.fit u is in
     let here : message_of p bus.A w ≡ Some (Sot g f l) = ap (message_in w) says in
@@ -135,7 +157,8 @@ start_in_block p good u n w g f l is file ldu says (is_end e) =
     absurd (cc (here, there))
 
 -- an end word in it, too
-end_in_block : (p : Contents) → IsRead p → (u : LduValue) (n : UnitNumber) (w flags check : ℕ) → IsLdu p u → n.file ≤ 255 → n.ldu ≤ 255 → form_of p.codes bus.A w ≡ Some (form.Eot flags check) → InBlock p u n w → (flags ≡ u.flags) × (check ≡ u.check)
+end_in_block : (p : Contents) → IsRead p → (u : LduValue) (n : UnitNumber) (w flags check : ℕ) → IsLdu p u → n.file ≤ 255 → n.ldu ≤ 255
+    → form_of p.codes bus.A w ≡ Some (form.Eot flags check) → InBlock p u n w → (flags ≡ u.flags) × (check ≡ u.check)
 end_in_block p good u n w flags check is file ldu says (is_start e) =
     let fit = good.fit u is in
     let here : message_of p bus.A w ≡ Some (Eot flags check) = ap (message_in w) says in
@@ -157,7 +180,8 @@ module _ (p : Contents) (good : IsRead p) (u : LduValue) (n : UnitNumber) (is : 
   abbrev IsEnd : Option EndWord → Type 0
   IsEnd o = IfSome o (λ e. (u.flags ≡ e.flags) × (u.check ≡ e.check))
 
-  start_next : (w : ℕ) (x : Option Form) (s : Option StartWord) → form_of p.codes bus.A w ≡ x → InBlock p u n w → IsStart s → IsStart (start_by x s)
+  start_next : (w : ℕ) (x : Option Form) (s : Option StartWord)
+      → form_of p.codes bus.A w ≡ x → InBlock p u n w → IsStart s → IsStart (start_by x s)
   start_next w (Some (form.Sot g f l)) s e i h =
       let same = start_in_block p good u n w g f l is file ldu e i in
       (sym same.0, ap (λ (k : ℕ). record { file = k; ldu = l }) same.1 ∙ ap (λ (k : ℕ). record { file = n.file; ldu = k }) same.2)
@@ -169,24 +193,32 @@ module _ (p : Contents) (good : IsRead p) (u : LduValue) (n : UnitNumber) (is : 
       (sym same.0, sym same.1)
   end_next w _ o e i h = h
 
-  starts : (words : List ℕ) (s : Option StartWord) → ((w : ℕ) → IsIn w words → InBlock p u n w) → IsStart s → IsStart (start_from p.codes s words)
+  starts : (words : List ℕ) (s : Option StartWord)
+      → ((w : ℕ) → IsIn w words → InBlock p u n w) → IsStart s → IsStart (start_from p.codes s words)
   starts [] s all h = h
-  starts (w ∷ words) s all h = starts words (start_by (form_of p.codes bus.A w) s) (λ v i. all v (inr i)) (start_next w (form_of p.codes bus.A w) s refl (all w (inl refl)) h)
+  starts (w ∷ words) s all h =
+      starts words (start_by (form_of p.codes bus.A w) s) (λ v i. all v (inr i))
+      (start_next w (form_of p.codes bus.A w) s refl (all w (inl refl)) h)
 
   ends : (words : List ℕ) (o : Option EndWord) → ((w : ℕ) → IsIn w words → InBlock p u n w) → IsEnd o → IsEnd (end_from p.codes o words)
   ends [] o all h = h
-  ends (w ∷ words) o all h = ends words (end_by (form_of p.codes bus.A w) o) (λ v i. all v (inr i)) (end_next w (form_of p.codes bus.A w) o refl (all w (inl refl)) h)
+  ends (w ∷ words) o all h =
+      ends words (end_by (form_of p.codes bus.A w) o) (λ v i. all v (inr i))
+      (end_next w (form_of p.codes bus.A w) o refl (all w (inl refl)) h)
 
-gfi_parts : (u : LduValue) (n : UnitNumber) (o : Option StartWord) → IfSome o (λ s. (u.gfi ≡ s.gfi) × (s.number ≡ n)) → IfSome o (λ s. u.gfi ≡ s.gfi)
+gfi_parts : (u : LduValue) (n : UnitNumber) (o : Option StartWord)
+    → IfSome o (λ s. (u.gfi ≡ s.gfi) × (s.number ≡ n)) → IfSome o (λ s. u.gfi ≡ s.gfi)
 gfi_parts u n None h = tt
 gfi_parts u n (Some s) h = h.0
 
-number_parts : (u : LduValue) (n : UnitNumber) (o : Option StartWord) → IfSome o (λ s. (u.gfi ≡ s.gfi) × (s.number ≡ n)) → IfSome o (λ s. s.number ≡ n)
+number_parts : (u : LduValue) (n : UnitNumber) (o : Option StartWord)
+    → IfSome o (λ s. (u.gfi ≡ s.gfi) × (s.number ≡ n)) → IfSome o (λ s. s.number ≡ n)
 number_parts u n None h = tt
 number_parts u n (Some s) h = h.1
 
 -- to what the attempt may be assigned
-pub may_be_to : (p : Contents) → IsProfile p → (a : link.Attempt) (b : Attempt) (t : Assigned) → IsRecorded p.codes a b → IsSound p t → IsOf p (Some t) a → MayBeTo p b t
+pub may_be_to : (p : Contents) → IsProfile p → (a : link.Attempt) (b : Attempt) (t : Assigned) → IsRecorded p.codes a b → IsSound p t
+    → IsOf p (Some t) a → MayBeTo p b t
 may_be_to p sound a b t r s of =
     let good = is_read p sound in
     let n = t.number in
@@ -196,9 +228,15 @@ may_be_to p sound a b t r s of =
     let ldu : n.ldu ≤ 255 = omega arith in
     let block = block_of p.codes u n.file n.ldu in
     let inside : (w : ℕ) → IsIn w a.words → InBlock p u n w = λ w i. in_block p good u n w s.unit (in_whole w a.words block of.0.words i) in
-    let start : IfSome b.start (λ s. (u.gfi ≡ s.gfi) × (s.number ≡ n)) = subst (λ (o : Option StartWord). IfSome o (λ s. (u.gfi ≡ s.gfi) × (s.number ≡ n))) (sym r.start) (starts p good u n s.unit s.file ldu a.words None inside tt) in
-    let end = subst (λ (o : Option EndWord). IfSome o (λ e. (u.flags ≡ e.flags) × (u.check ≡ e.check))) (sym r.end) (ends p good u n s.unit s.file ldu a.words None inside tt) in
-    let parts = subst (IsSubsequenceOf (data_words p.codes a.words)) (data_block p good u n s.unit s.file ldu) (sub_data p.codes a.words block of.0.words) in
+    let start : IfSome b.start (λ s. (u.gfi ≡ s.gfi) × (s.number ≡ n)) =
+    subst (λ (o : Option StartWord). IfSome o (λ s. (u.gfi ≡ s.gfi) × (s.number ≡ n))) (sym r.start)
+    (starts p good u n s.unit s.file ldu a.words None inside tt) in
+    let end =
+    subst (λ (o : Option EndWord). IfSome o (λ e. (u.flags ≡ e.flags) × (u.check ≡ e.check))) (sym r.end)
+    (ends p good u n s.unit s.file ldu a.words None inside tt) in
+    let parts =
+    subst (IsSubsequenceOf (data_words p.codes a.words)) (data_block p good u n s.unit s.file ldu)
+    (sub_data p.codes a.words block of.0.words) in
     record {
       unit = record {
         unit = s.unit;
@@ -219,16 +257,20 @@ closes_to i x a (Some n) more = a ∷ more (fresh n)
 
 abbrev closed_from : Contents → link.Attempt → List Seen → List link.Attempt
 closed_from p a [] = []
-closed_from p a (i ∷ items) = closes_to i (form_of p.codes i.bus i.word) a (asks i.bus (form_of p.codes i.bus i.word)) (λ b. closed_from p b items)
+closed_from p a (i ∷ items) =
+    closes_to i (form_of p.codes i.bus i.word) a (asks i.bus (form_of p.codes i.bus i.word)) (λ b. closed_from p b items)
 
 abbrev pub closed : Contents → List Seen → List link.Attempt
 closed p items = closed_from p (fresh 0) items
 
-all_from : (p : Contents) (a : link.Attempt) (items : List Seen) → attempts_from p a items ≡ closed_from p a items ++ latest_from p a items ∷ []
+all_from : (p : Contents) (a : link.Attempt) (items : List Seen)
+    → attempts_from p a items ≡ closed_from p a items ++ latest_from p a items ∷ []
 all_from p a [] = refl
 all_from p a (i ∷ items) = by (asks i.bus (form_of p.codes i.bus i.word)) (λ b. all_from p b items)
   where
-    by : (o : Option ℕ) → ((b : link.Attempt) → attempts_from p b items ≡ closed_from p b items ++ latest_from p b items ∷ []) → goes_on_to i (form_of p.codes i.bus i.word) a o (λ b. attempts_from p b items) ≡ closes_to i (form_of p.codes i.bus i.word) a o (λ b. closed_from p b items) ++ latest_from p (under_way o (grown i.bus i.word (form_of p.codes i.bus i.word) a)) items ∷ []
+    by : (o : Option ℕ) → ((b : link.Attempt) → attempts_from p b items ≡ closed_from p b items ++ latest_from p b items ∷ [])
+        → goes_on_to i (form_of p.codes i.bus i.word) a o (λ b. attempts_from p b items) ≡ closes_to i (form_of p.codes i.bus i.word) a o
+        (λ b. closed_from p b items) ++ latest_from p (under_way o (grown i.bus i.word (form_of p.codes i.bus i.word) a)) items ∷ []
     by None rec = rec (grown i.bus i.word (form_of p.codes i.bus i.word) a)
     by (Some n) rec = ap (λ (l : List link.Attempt). a ∷ l) (rec (fresh n))
 
@@ -240,7 +282,9 @@ abbrev closed_by : Option ℕ → List link.Attempt → link.Attempt → List li
 closed_by None done a = done
 closed_by (Some n) done a = done ++ a ∷ []
 
-push_closed : (p : Contents) (a : link.Attempt) (items : List Seen) (i : Seen) → closed_from p a (items ++ i ∷ []) ≡ closed_by (asks i.bus (form_of p.codes i.bus i.word)) (closed_from p a items) (latest_from p a items)
+push_closed : (p : Contents) (a : link.Attempt) (items : List Seen) (i : Seen)
+    → closed_from p a (items ++ i ∷ [])
+    ≡ closed_by (asks i.bus (form_of p.codes i.bus i.word)) (closed_from p a items) (latest_from p a items)
 push_closed p a [] i = by (asks i.bus (form_of p.codes i.bus i.word))
   where
     by : (o : Option ℕ) → closes_to i (form_of p.codes i.bus i.word) a o (λ b. []) ≡ closed_by o [] a
@@ -255,34 +299,45 @@ push_closed p a (x ∷ items) i = by (asks x.bus (form_of p.codes x.bus x.word))
     cons None done b = refl
     cons (Some n) done b = refl
 
-    by : (o : Option ℕ) → ((b : link.Attempt) → closed_from p b (items ++ i ∷ []) ≡ closed_by (asks i.bus (form_of p.codes i.bus i.word)) (closed_from p b items) (latest_from p b items)) → closes_to x (form_of p.codes x.bus x.word) a o (λ b. closed_from p b (items ++ i ∷ [])) ≡ closed_by (asks i.bus (form_of p.codes i.bus i.word)) (closes_to x (form_of p.codes x.bus x.word) a o (λ b. closed_from p b items)) (latest_from p (under_way o next) items)
+    by : (o : Option ℕ)
+        → ((b : link.Attempt) → closed_from p b (items ++ i ∷ [])
+        ≡ closed_by (asks i.bus (form_of p.codes i.bus i.word)) (closed_from p b items) (latest_from p b items))
+        → closes_to x (form_of p.codes x.bus x.word) a o (λ b. closed_from p b (items ++ i ∷ []))
+        ≡ closed_by (asks i.bus (form_of p.codes i.bus i.word))
+        (closes_to x (form_of p.codes x.bus x.word) a o (λ b. closed_from p b items)) (latest_from p (under_way o next) items)
     by None rec = rec next
-    by (Some n) rec = ap (λ (l : List link.Attempt). a ∷ l) (rec (fresh n)) ∙ cons (asks i.bus (form_of p.codes i.bus i.word)) (closed_from p (fresh n) items) (latest_from p (fresh n) items)
+    by (Some n) rec = ap (λ (l : List link.Attempt). a ∷ l) (rec (fresh n))
+        ∙ cons (asks i.bus (form_of p.codes i.bus i.word)) (closed_from p (fresh n) items) (latest_from p (fresh n) items)
 
 -- ---- up to an item
 
 -- one that is no request
-pub closed_same : (p : Contents) (items : List Seen) (n : ℕ) (i : Seen) → slice_get items n ≡ Some i → asks i.bus (form_of p.codes i.bus i.word) ≡ None → closed p (take (suc n) items) ≡ closed p (take n items)
+pub closed_same : (p : Contents) (items : List Seen) (n : ℕ) (i : Seen) → slice_get items n ≡ Some i
+    → asks i.bus (form_of p.codes i.bus i.word) ≡ None → closed p (take (suc n) items) ≡ closed p (take n items)
 closed_same p items n i at none =
     ap (closed p) (next_item n i items at)
     ∙ push_closed p (fresh 0) (take n items) i
     ∙ ap (λ (o : Option ℕ). closed_by o (closed p (take n items)) (latest p (take n items))) none
 
 -- a request
-pub closed_more : (p : Contents) (items : List Seen) (n : ℕ) (i : Seen) (count : ℕ) → slice_get items n ≡ Some i → asks i.bus (form_of p.codes i.bus i.word) ≡ Some count → closed p (take (suc n) items) ≡ attempts p (take n items)
+pub closed_more : (p : Contents) (items : List Seen) (n : ℕ) (i : Seen) (count : ℕ) → slice_get items n ≡ Some i
+    → asks i.bus (form_of p.codes i.bus i.word) ≡ Some count → closed p (take (suc n) items) ≡ attempts p (take n items)
 closed_more p items n i count at some =
     ap (closed p) (next_item n i items at)
     ∙ push_closed p (fresh 0) (take n items) i
     ∙ ap (λ (o : Option ℕ). closed_by o (closed p (take n items)) (latest p (take n items))) some
     ∙ sym (all_attempts p (take n items))
 
-pub latest_same : (p : Contents) (items : List Seen) (n : ℕ) (i : Seen) → slice_get items n ≡ Some i → asks i.bus (form_of p.codes i.bus i.word) ≡ None → latest p (take (suc n) items) ≡ grown i.bus i.word (form_of p.codes i.bus i.word) (latest p (take n items))
+pub latest_same : (p : Contents) (items : List Seen) (n : ℕ) (i : Seen)
+    → slice_get items n ≡ Some i → asks i.bus (form_of p.codes i.bus i.word) ≡ None
+    → latest p (take (suc n) items) ≡ grown i.bus i.word (form_of p.codes i.bus i.word) (latest p (take n items))
 latest_same p items n i at none =
     ap (latest p) (next_item n i items at)
     ∙ latest_push p (take n items) i
     ∙ ap (λ (o : Option ℕ). under_way o (grown i.bus i.word (form_of p.codes i.bus i.word) (latest p (take n items)))) none
 
-pub latest_asked : (p : Contents) (items : List Seen) (n : ℕ) (i : Seen) (count : ℕ) → slice_get items n ≡ Some i → asks i.bus (form_of p.codes i.bus i.word) ≡ Some count → latest p (take (suc n) items) ≡ fresh count
+pub latest_asked : (p : Contents) (items : List Seen) (n : ℕ) (i : Seen) (count : ℕ)
+    → slice_get items n ≡ Some i → asks i.bus (form_of p.codes i.bus i.word) ≡ Some count → latest p (take (suc n) items) ≡ fresh count
 latest_asked p items n i count at some =
     ap (latest p) (next_item n i items at)
     ∙ latest_push p (take n items) i
@@ -299,38 +354,51 @@ no_value : (o : Option ℕ) → is_some o ≡ false → o ≡ None
 no_value None e = refl
 no_value (Some n) e = absurd (cc e)
 
-pub first_closed : (p : Contents) (items : List Seen) (n : ℕ) → closed p (take n items) ≡ [] → attempts p (take n items) ≡ latest p (take n items) ∷ []
+pub first_closed : (p : Contents) (items : List Seen) (n : ℕ)
+    → closed p (take n items) ≡ [] → attempts p (take n items) ≡ latest p (take n items) ∷ []
 first_closed p items n none = all_attempts p (take n items) ∙ ap (λ (l : List link.Attempt). l ++ latest p (take n items) ∷ []) none
 
-asked_is : (c : Codes) (items : List Seen) (n : ℕ) (i : Seen) (o : Option ℕ) → slice_get items n ≡ Some i → o ≡ asked_at c (slice_get items n) → asks i.bus (form_of c i.bus i.word) ≡ o
+asked_is : (c : Codes) (items : List Seen) (n : ℕ) (i : Seen) (o : Option ℕ)
+    → slice_get items n ≡ Some i → o ≡ asked_at c (slice_get items n) → asks i.bus (form_of c i.bus i.word) ≡ o
 asked_is c items n i o at is = sym (is ∙ ap (asked_at c) at)
 
-pub closed_on : (p : Contents) (items : List Seen) (n : ℕ) (o : Option ℕ) → n < length items → o ≡ asked_at p.codes (slice_get items n) → is_some o ≡ false → closed p (take (n + 1) items) ≡ closed p (take n items)
+pub closed_on : (p : Contents) (items : List Seen) (n : ℕ) (o : Option ℕ) → n < length items → o ≡ asked_at p.codes (slice_get items n)
+    → is_some o ≡ false → closed p (take (n + 1) items) ≡ closed p (take n items)
 closed_on p items n o l is none =
     let found = there items n l in
     let one : n + 1 ≡ suc n = omega arith in
-    ap (λ (k : ℕ). closed p (take k items)) one ∙ closed_same p items n found.0 found.1 (asked_is p.codes items n found.0 o found.1 is ∙ no_value o none)
+    ap (λ (k : ℕ). closed p (take k items)) one
+    ∙ closed_same p items n found.0 found.1 (asked_is p.codes items n found.0 o found.1 is ∙ no_value o none)
 
-pub asked_first : (p : Contents) (items : List Seen) (n count : ℕ) (b : Attempt) → n < length items → Some count ≡ asked_at p.codes (slice_get items n) → IsRecorded p.codes (fresh count) b
+pub asked_first : (p : Contents) (items : List Seen) (n count : ℕ) (b : Attempt)
+    → n < length items → Some count ≡ asked_at p.codes (slice_get items n) → IsRecorded p.codes (fresh count) b
     → (closed p (take (n + 1) items) ≡ attempts p (take n items)) × IsRecorded p.codes (latest p (take (n + 1) items)) b
 asked_first p items n count b l is h =
     let found = there items n l in
     let one : n + 1 ≡ suc n = omega arith in
     let asked = asked_is p.codes items n found.0 (Some count) found.1 is in (
       ap (λ (k : ℕ). closed p (take k items)) one ∙ closed_more p items n found.0 count found.1 asked,
-      subst (λ (a : link.Attempt). IsRecorded p.codes a b) (sym (ap (λ (k : ℕ). latest p (take k items)) one ∙ latest_asked p items n found.0 count found.1 asked)) h,
+      subst (λ (a : link.Attempt). IsRecorded p.codes a b)
+          (sym (ap (λ (k : ℕ). latest p (take k items)) one ∙ latest_asked p items n found.0 count found.1 asked)) h,
     )
 
-pub recorded_on : (p : Contents) (items : List Seen) (n : ℕ) (o : Option ℕ) (i : Seen) (h : DecodedWord) (old new : Attempt) → o ≡ asked_at p.codes (slice_get items n) → is_some o ≡ false → slice_get items n ≡ Some i → IsHeardAt p.codes items n h → IsTaken i.bus i.word h.form old new → IsRecorded p.codes (latest p (take n items)) old
+pub recorded_on : (p : Contents) (items : List Seen) (n : ℕ) (o : Option ℕ) (i : Seen) (h : DecodedWord) (old new : Attempt)
+    → o ≡ asked_at p.codes (slice_get items n) → is_some o ≡ false → slice_get items n ≡ Some i → IsHeardAt p.codes items n h
+    → IsTaken i.bus i.word h.form old new → IsRecorded p.codes (latest p (take n items)) old
     → IsRecorded p.codes (latest p (take (n + 1) items)) new
 recorded_on p items n o i h old new is none at heard taken was =
     let same : heard.item ≡ i = cc (heard.is, at) in
     let form : form_of p.codes i.bus i.word ≡ h.form = subst (λ (j : Seen). form_of p.codes j.bus j.word ≡ h.form) same heard.form_is in
     let one : n + 1 ≡ suc n = omega arith in
-    let grows = ap (λ (k : ℕ). latest p (take k items)) one ∙ latest_same p items n i at (asked_is p.codes items n i o at is ∙ no_value o none) ∙ ap (λ (x : Option Form). grown i.bus i.word x (latest p (take n items))) form in
-    subst (λ (a : link.Attempt). IsRecorded p.codes a new) (sym grows) (took p.codes (latest p (take n items)) old new i.bus i.word h.form form taken was)
+    let grows =
+    ap (λ (k : ℕ). latest p (take k items)) one ∙ latest_same p items n i at (asked_is p.codes items n i o at is ∙ no_value o none)
+    ∙ ap (λ (x : Option Form). grown i.bus i.word x (latest p (take n items))) form in
+    subst (λ (a : link.Attempt). IsRecorded p.codes a new) (sym grows)
+    (took p.codes (latest p (take n items)) old new i.bus i.word h.form form taken was)
 
 -- ---- the attempt as a whole
 
-pub attempt_from : (p : Contents) (items : List Seen) (from to : ℕ) (b : Attempt) → closed p (take to items) ≡ attempts p (take from items) → IsRecorded p.codes (latest p (take to items)) b → IsAttemptFrom p items from to b
-attempt_from p items from to b done is = record { is = is; all = all_attempts p (take to items) ∙ ap (λ (l : List link.Attempt). l ++ latest p (take to items) ∷ []) done }
+pub attempt_from : (p : Contents) (items : List Seen) (from to : ℕ) (b : Attempt) → closed p (take to items) ≡ attempts p (take from items)
+    → IsRecorded p.codes (latest p (take to items)) b → IsAttemptFrom p items from to b
+attempt_from p items from to b done is =
+    record { is = is; all = all_attempts p (take to items) ∙ ap (λ (l : List link.Attempt). l ++ latest p (take to items) ∷ []) done }

@@ -25,6 +25,7 @@ use Rattle.a429_search.specs.Recorded.{IsAttemptFrom, MayBeOf, MayBeTo, number_o
 use Rattle.a429_search.specs.Standing.{Begins, IsAt, IsHeard, IsNamed, LeaveNothingOut, Stands, StandsLater, all_give_ups}
 use Rattle.a429_search.proofs.FrontierFacts.{CoverNext, comes_next, cover_more, in_range, not_assignable}
 use Rattle.a429_search.proofs.RecordedFacts.{may_be_to, there}
+use Rattle.a429_search.proofs.RivalFacts.{get_push}
 use Rattle.a429_search.proofs.StandingFacts.{at_stands, fewer_later, fewer_stands}
 
 -- ---- one more hypothesis
@@ -32,33 +33,30 @@ use Rattle.a429_search.proofs.StandingFacts.{at_stands, fewer_later, fewer_stand
 some_is : (a b : Hypothesis) → Some a ≡ Some b → a ≡ b
 some_is a b e = cc e
 
-get_either : {X : Type 0} (xs : List X) (y x : X) (k : ℕ) → slice_get (xs ++ y ∷ []) k ≡ Some x → (slice_get xs k ≡ Some x) ⊎ (x ≡ y)
-get_either [] y x zero h = inr (sym (cc h))
-get_either [] y x (suc k) h = absurd (cc h)
-get_either (z ∷ xs) y x zero h = inl h
-get_either (z ∷ xs) y x (suc k) h = get_either xs y x k h
-
 module _ (old new : List Hypothesis) (h : Hypothesis) (is : new ≡ old ++ h ∷ []) where
   pub at_pushed : (start : Option UnitNumber) → IfSome start (λ n. IsAt n h.standing) → AreAt start old → AreAt start new
   at_pushed None here all = tt
-  at_pushed (Some n) here all = λ k x at. elim (get_either old h x k (subst (λ (l : List Hypothesis). slice_get l k ≡ Some x) is at)) [
+  at_pushed (Some n) here all = λ k x at. elim (get_push old h x k (subst (λ (l : List Hypothesis). slice_get l k ≡ Some x) is at)) [
     | inl was ↦ all k x was
     | inr now ↦ subst (λ (y : Hypothesis). IsAt n y.standing) (sym now) here
   ]
 
 pub covered_kept : (p : Contents) (old new : List Hypothesis) (t : Assigned) → AreKept old new → AreCovered p old t → AreCovered p new t
-covered_kept p old new t kept c = record { place = c.place; hypothesis = c.hypothesis; is = kept c.place c.hypothesis c.is; covers = c.covers }
+covered_kept p old new t kept c =
+    record { place = c.place; hypothesis = c.hypothesis; is = kept c.place c.hypothesis c.is; covers = c.covers }
 
 -- ---- one way of a hypothesis
 
 -- the standing of the way is at the number of the start word
-pub at_way : {X : Type 0} (o : Option X) (x : X) (f : X → Standing) (start : Option UnitNumber) → o ≡ Some x → IfSome start (λ n. IfSome o (λ y. IsAt n (f y))) → IfSome start (λ n. IsAt n (f x))
+pub at_way : {X : Type 0} (o : Option X) (x : X) (f : X → Standing) (start : Option UnitNumber) → o ≡ Some x
+    → IfSome start (λ n. IfSome o (λ y. IsAt n (f y))) → IfSome start (λ n. IsAt n (f x))
 at_way o x f None is all = tt
 at_way {X} o x f (Some n) is all = subst (λ (q : Option X). IfSome q (λ y. IsAt n (f y))) is all
 
 -- ---- both ways
 
-join_way : (o : Option Standing) (F G : Standing → Type 0) (A : Type 0) → ((s : Standing) → F s → G s) → IsSomeAnd o F → IfSome o (λ j. G j → A) → A
+join_way : (o : Option Standing) (F G : Standing → Type 0) (A : Type 0) → ((s : Standing) → F s → G s) → IsSomeAnd o F
+    → IfSome o (λ j. G j → A) → A
 join_way None F G A weak h f = absurd h
 join_way (Some s) F G A weak h f = f (weak s h)
 
@@ -69,8 +67,12 @@ named p a t may = by a.start may.number
     by None h = tt
     by (Some s) h = h
 
-pub ways_cover : (p : Contents) (a : Attempt) (s : Standing) (codes : Codes) (start : Option UnitNumber) (has_group : Bool) (ways : Ways) → codes ≡ p.codes → start ≡ number_of a.start → LeaveNothingOut codes.first_ldu s start has_group ways → LeaveNothingOut p.codes.first_ldu s (number_of a.start) has_group ways
-ways_cover p a s codes start has_group ways is same all = subst (λ (c : Codes). LeaveNothingOut c.first_ldu s (number_of a.start) has_group ways) is (subst (λ (o : Option UnitNumber). LeaveNothingOut codes.first_ldu s o has_group ways) same all)
+pub ways_cover : (p : Contents) (a : Attempt) (s : Standing) (codes : Codes) (start : Option UnitNumber) (has_group : Bool) (ways : Ways)
+    → codes ≡ p.codes → start ≡ number_of a.start → LeaveNothingOut codes.first_ldu s start has_group ways
+    → LeaveNothingOut p.codes.first_ldu s (number_of a.start) has_group ways
+ways_cover p a s codes start has_group ways is same all =
+    subst (λ (c : Codes). LeaveNothingOut c.first_ldu s (number_of a.start) has_group ways) is
+    (subst (λ (o : Option UnitNumber). LeaveNothingOut codes.first_ldu s o has_group ways) same all)
 
 pub then_too : (o : Option Standing) (F : Standing → Type 0) (A B : Type 0) → (A → B) → IfSome o (λ j. F j → A) → IfSome o (λ j. F j → B)
 then_too None F A B f h = tt
@@ -82,8 +84,11 @@ uncut true after f none = let cut = f refl in absurd (cc (cut, none))
 uncut false after f none = refl
 
 -- what the hypothesis covers is covered, where each way that its standing has is
-pub carried_on : (p : Contents) (h : Hypothesis) (ways : Ways) (start : Option UnitNumber) (has_group : Bool) (t : Assigned) (A : Type 0) → LeaveNothingOut p.codes.first_ldu h.standing start has_group ways → has_group ≡ is_some h.group → IsSound p t → IsNamed start t.number → Covers p h t
-    → (FitsGroup p h.group t.unit → IfSome ways.join (λ j. IsAmong p.codes.first_ldu j t → A)) → (Begins ways (λ b. Stands p.codes.first_ldu b t.number t.give_ups) → A) → A
+pub carried_on : (p : Contents) (h : Hypothesis) (ways : Ways) (start : Option UnitNumber) (has_group : Bool) (t : Assigned) (A : Type 0)
+    → LeaveNothingOut p.codes.first_ldu h.standing start has_group ways → has_group ≡ is_some h.group → IsSound p t → IsNamed start t.number
+    → Covers p h t
+    → (FitsGroup p h.group t.unit → IfSome ways.join (λ j. IsAmong p.codes.first_ldu j t → A))
+    → (Begins ways (λ b. Stands p.codes.first_ldu b t.number t.give_ups) → A) → A
 carried_on p h ways start has_group t A all group sound is covers join begin = by covers
   where
     first : ℕ
@@ -96,7 +101,9 @@ carried_on p h ways start has_group t A all group sound is covers join begin = b
     by : Covers p h t → A
     by (inl later) = elim (all.later t.number t.give_ups (in_range p t sound) is later) [
       | inl b ↦ begin b
-      | inr (off, j) ↦ join_way ways.join (λ j. Stands first j t.number t.give_ups ⊎ StandsLater first j t.number t.give_ups) (λ j. IsAmong first j t) A (λ s k. k) j (join (none h.group group off))
+      | inr (off, j) ↦
+          join_way ways.join (λ j. Stands first j t.number t.give_ups ⊎ StandsLater first j t.number t.give_ups) (λ j. IsAmong first j t) A
+          (λ s k. k) j (join (none h.group group off))
     ]
     by (inr (stands, fits)) = elim (all.same t.number t.give_ups (in_range p t sound) is stands) [
       | inl j ↦ join_way ways.join (λ j. Stands first j t.number t.give_ups) (λ j. IsAmong first j t) A (λ s k. inl k) j (join fits)
@@ -106,24 +113,35 @@ carried_on p h ways start has_group t A all group sound is covers join begin = b
 -- ---- all hypotheses
 
 -- those up to one, and that one
-pub one_carried : (p : Contents) (hyps next : List Hypothesis) (t : Assigned) (n : ℕ) (x : Hypothesis) → slice_get hyps n ≡ Some x → ((k : ℕ) (h : Hypothesis) → k < n → slice_get hyps k ≡ Some h → Covers p h t → AreCovered p next t) → (Covers p x t → AreCovered p next t) → (k : ℕ) (h : Hypothesis) → k < n + 1 → slice_get hyps k ≡ Some h → Covers p h t → AreCovered p next t
+pub one_carried : (p : Contents) (hyps next : List Hypothesis) (t : Assigned) (n : ℕ) (x : Hypothesis)
+    → slice_get hyps n ≡ Some x → ((k : ℕ) (h : Hypothesis) → k < n → slice_get hyps k ≡ Some h → Covers p h t → AreCovered p next t)
+    → (Covers p x t → AreCovered p next t) → (k : ℕ) (h : Hypothesis) → k < n + 1 → slice_get hyps k ≡ Some h → Covers p h t
+    → AreCovered p next t
 one_carried p hyps next t n x at before here k h l is covers = elim (cases_order k n) [
-  | inl same ↦ let one : h ≡ x = some_is h x (sym is ∙ ap (slice_get hyps) same ∙ at) in here (subst (λ (y : Hypothesis). Covers p y t) one covers)
+  | inl same ↦
+      let one : h ≡ x = some_is h x (sym is ∙ ap (slice_get hyps) same ∙ at) in here (subst (λ (y : Hypothesis). Covers p y t) one covers)
   | inr (inl less) ↦ before k h less is covers
   | inr (inr more) ↦ absurd (omega (arith, l, more))
 ]
 
-pub all_carried : (p : Contents) (hyps next : List Hypothesis) (t : Assigned) (n : ℕ) → length hyps ≤ n → ((k : ℕ) (h : Hypothesis) → k < n → slice_get hyps k ≡ Some h → Covers p h t → AreCovered p next t) → AreCovered p hyps t → AreCovered p next t
-all_carried p hyps next t n all each c = each c.place c.hypothesis (omega (arith, all, slice_get_within hyps c.place c.hypothesis c.is)) c.is c.covers
+pub all_carried : (p : Contents) (hyps next : List Hypothesis) (t : Assigned) (n : ℕ)
+    → length hyps ≤ n → ((k : ℕ) (h : Hypothesis) → k < n → slice_get hyps k ≡ Some h → Covers p h t → AreCovered p next t)
+    → AreCovered p hyps t → AreCovered p next t
+all_carried p hyps next t n all each c =
+    each c.place c.hypothesis (omega (arith, all, slice_get_within hyps c.place c.hypothesis c.is)) c.is c.covers
 
 -- ---- the one with the fewest files given up
 
-pub fewest_of : (hyps : List Hypothesis) (best n : ℕ) → best < length hyps → length hyps ≤ n → ((b : Hypothesis) → slice_get hyps best ≡ Some b → (k : ℕ) (h : Hypothesis) → k < n → slice_get hyps k ≡ Some h → all_give_ups b.standing ≤ all_give_ups h.standing) → HasFewest hyps best
+pub fewest_of : (hyps : List Hypothesis) (best n : ℕ) → best < length hyps → length hyps ≤ n
+    → ((b : Hypothesis) → slice_get hyps best ≡ Some b → (k : ℕ) (h : Hypothesis) → k < n → slice_get hyps k ≡ Some h
+    → all_give_ups b.standing ≤ all_give_ups h.standing)
+    → HasFewest hyps best
 fewest_of hyps best n l all few =
     let found = there hyps best l in
     (found.0, found.1, λ k h is. few found.0 found.1 k h (omega (arith, all, slice_get_within hyps k h is)) is)
 
-pub fewest_is : (hyps : List Hypothesis) (place : ℕ) (x : Hypothesis) → HasFewest hyps place → x ≡ get_or hyps place x → (k : ℕ) (h : Hypothesis) → slice_get hyps k ≡ Some h → all_give_ups x.standing ≤ all_give_ups h.standing
+pub fewest_is : (hyps : List Hypothesis) (place : ℕ) (x : Hypothesis) → HasFewest hyps place → x ≡ get_or hyps place x
+    → (k : ℕ) (h : Hypothesis) → slice_get hyps k ≡ Some h → all_give_ups x.standing ≤ all_give_ups h.standing
 fewest_is hyps place x (best, at, few) is k h there =
     let here = slice_get_read hyps (length hyps) place x refl (slice_get_within hyps place best at) is in
     let same = some_is best x (sym at ∙ here) in
@@ -134,20 +152,25 @@ fewest_is hyps place x (best, at, few) is k h there =
 named_of : (o : Option StartWord) (s : StartWord) (m : UnitNumber) → o ≡ Some s → IfSome o (λ x. x.number ≡ m) → s.number ≡ m
 named_of o s m is h = subst (λ (q : Option StartWord). IfSome q (λ x. x.number ≡ m)) is h
 
-at_of : (o : Option StartWord) (s : StartWord) (hyps : List Hypothesis) → o ≡ Some s → AreAt (number_of o) hyps → (k : ℕ) (h : Hypothesis) → slice_get hyps k ≡ Some h → IsAt s.number h.standing
+at_of : (o : Option StartWord) (s : StartWord) (hyps : List Hypothesis)
+    → o ≡ Some s → AreAt (number_of o) hyps → (k : ℕ) (h : Hypothesis) → slice_get hyps k ≡ Some h → IsAt s.number h.standing
 at_of o s hyps is h = subst (λ (q : Option StartWord). AreAt (number_of q) hyps) is h
 
-flags_of : (o : Option EndWord) (e : EndWord) (u : LduValue) → o ≡ Some e → IfSome o (λ x. (u.flags ≡ x.flags) × (u.check ≡ x.check)) → u.flags ≡ e.flags
+flags_of : (o : Option EndWord) (e : EndWord) (u : LduValue)
+    → o ≡ Some e → IfSome o (λ x. (u.flags ≡ x.flags) × (u.check ≡ x.check)) → u.flags ≡ e.flags
 flags_of o e u is h = (subst (λ (q : Option EndWord). IfSome q (λ x. (u.flags ≡ x.flags) × (u.check ≡ x.check))) is h).0
 
 -- the hypothesis that they have become, and beside it that of a source that has heard the acknowledgement
 pub record IsMerged (p : Contents) (next : List Hypothesis) (whole : Bool) (a : Attempt) (n : UnitNumber) (one : Hypothesis) : Type 0 where
   pub at : IsAt n one.standing
   pub group : (u : LduValue) → MayBeOf p a u → FitsGroup p one.group u
-  pub few : whole ≡ true → (k : ℕ) (h : Hypothesis) → slice_get next k ≡ Some h → IsAt n h.standing → one.standing.give_ups ≤ h.standing.give_ups
+  pub few : whole ≡ true → (k : ℕ) (h : Hypothesis) → slice_get next k ≡ Some h → IsAt n h.standing
+      → one.standing.give_ups ≤ h.standing.give_ups
   pub none : whole ≡ false → one.standing.give_ups ≡ 0
 
-merged_covers : (p : Contents) (next : List Hypothesis) (whole : Bool) (a : Attempt) (n : UnitNumber) (one : Hypothesis) (t : Assigned) → IsMerged p next whole a n one → ((k : ℕ) (h : Hypothesis) → slice_get next k ≡ Some h → IsAt n h.standing) → n ≡ t.number → MayBeOf p a t.unit → (whole ≡ true → AreCovered p next t) → Covers p one t
+merged_covers : (p : Contents) (next : List Hypothesis) (whole : Bool) (a : Attempt) (n : UnitNumber) (one : Hypothesis) (t : Assigned)
+    → IsMerged p next whole a n one → ((k : ℕ) (h : Hypothesis) → slice_get next k ≡ Some h → IsAt n h.standing) → n ≡ t.number
+    → MayBeOf p a t.unit → (whole ≡ true → AreCovered p next t) → Covers p one t
 merged_covers p next whole a n one t is all same may before = by whole refl
   where
     first : ℕ
@@ -160,25 +183,39 @@ merged_covers p next whole a n one t is all same may before = by whole refl
         let few = is.few e c.place c.hypothesis c.is at in
         elim c.covers [
           | inl later ↦ inl (fewer_later first n t.number c.hypothesis.standing one.standing t.give_ups at is.at few later)
-          | inr (stands, fits) ↦ inr (fewer_stands first n t.number c.hypothesis.standing one.standing t.give_ups at is.at few stands, is.group t.unit may)
+          | inr (stands, fits) ↦
+              inr (fewer_stands first n t.number c.hypothesis.standing one.standing t.give_ups at is.at few stands, is.group t.unit may)
         ]
     by false e = inr (at_stands first one.standing n t.number t.give_ups is.at same (omega (arith, is.none e)), is.group t.unit may)
 
-pub heard_goes_on : (p : Contents) (next hyps : List Hypothesis) (whole : Bool) (a : Attempt) (one heard : Hypothesis) (start : StartWord) (end : EndWord) (known : UnitNumber) → a.start ≡ Some start → a.end ≡ Some end → AreAt (number_of a.start) next → IsMerged p next whole a start.number one
-    → IsHeard known heard.standing → heard.group ≡ None → known ≡ next_number p.codes start.number (is_final p.codes end.flags) → hyps ≡ one ∷ (heard ∷ []) → GoOnFrom p whole next a hyps
+pub heard_goes_on : (p : Contents) (next hyps : List Hypothesis) (whole : Bool) (a : Attempt) (one heard : Hypothesis) (start : StartWord)
+    (end : EndWord) (known : UnitNumber)
+    → a.start ≡ Some start → a.end ≡ Some end → AreAt (number_of a.start) next → IsMerged p next whole a start.number one
+    → IsHeard known heard.standing → heard.group ≡ None → known ≡ next_number p.codes start.number (is_final p.codes end.flags)
+    → hyps ≡ one ∷ (heard ∷ []) → GoOnFrom p whole next a hyps
 heard_goes_on p next hyps whole a one heard start end known starts ends all is at none after both = λ t u before sound may follows.
     let same = named_of a.start start t.number starts may.number in
     let flags = flags_of a.end end t.unit ends may.unit.end in
     let one_covers = merged_covers p next whole a start.number one t is (at_of a.start start next starts all) same may.unit before in
-    let comes : known ≡ number_after p.codes t.number t.unit = after ∙ ap (λ (n : UnitNumber). next_number p.codes n (is_final p.codes end.flags)) same ∙ ap (λ (f : ℕ). next_number p.codes t.number (is_final p.codes f)) (sym flags) in
+    let comes : known ≡ number_after p.codes t.number t.unit =
+    after ∙ ap (λ (n : UnitNumber). next_number p.codes n (is_final p.codes end.flags)) same
+    ∙ ap (λ (f : ℕ). next_number p.codes t.number (is_final p.codes f)) (sym flags) in
     elim (comes_next p one t u (is_some a.acknowledged) one_covers follows) [
       | inl c ↦ record { place = 0; hypothesis = one; is = ap (λ (l : List Hypothesis). slice_get l 0) both; covers = c }
-      | inr (acked, goes) ↦ record { place = 1; hypothesis = heard; is = ap (λ (l : List Hypothesis). slice_get l 1) both; covers = goes heard (subst (λ (n : UnitNumber). IsHeard n heard.standing) comes at) (subst (λ (o : Option Group). FitsGroup p o u.unit) (sym none) tt) }
+      | inr (acked, goes) ↦ record {
+        place = 1;
+        hypothesis = heard;
+        is = ap (λ (l : List Hypothesis). slice_get l 1) both;
+        covers =
+            goes heard (subst (λ (n : UnitNumber). IsHeard n heard.standing) comes at)
+            (subst (λ (o : Option Group). FitsGroup p o u.unit) (sym none) tt);
+      }
     ]
 
 -- ---- without an acknowledgement
 
-pub goes_on : (p : Contents) (hyps next kept : List Hypothesis) (whole : Bool) (a : Attempt) → is_some a.acknowledged ≡ false → whole ≡ true → CarriesOn p hyps a next → ((t : Assigned) → AreCovered p next t → AreCovered p kept t) → GoOnFrom p whole hyps a kept
+pub goes_on : (p : Contents) (hyps next kept : List Hypothesis) (whole : Bool) (a : Attempt) → is_some a.acknowledged ≡ false → whole ≡ true
+    → CarriesOn p hyps a next → ((t : Assigned) → AreCovered p next t → AreCovered p kept t) → GoOnFrom p whole hyps a kept
 goes_on p hyps next kept whole a quiet is carries keep = λ t u before sound may follows.
     let c = carries t sound may (before is) in
     elim (comes_next p c.hypothesis t u (is_some a.acknowledged) c.covers follows) [
@@ -190,18 +227,25 @@ pub none_is : {X : Type 0} (o : Option X) (b : Bool) → is_some o ≡ not b →
 none_is o b is e = is ∙ ap not e
 
 -- after one that was heard to be acknowledged, and whatever was left out before
-pub heard_on : (p : Contents) (hyps next heard kept : List Hypothesis) (old whole : Bool) (a : Attempt) → (whole ≡ true → old ≡ true) → (whole ≡ true → CarriesOn p hyps a next) → GoOnFrom p whole next a heard → ((t : Assigned) → AreCovered p heard t → AreCovered p kept t) → GoOnFrom p old hyps a kept
+pub heard_on : (p : Contents) (hyps next heard kept : List Hypothesis) (old whole : Bool) (a : Attempt)
+    → (whole ≡ true → old ≡ true) → (whole ≡ true → CarriesOn p hyps a next) → GoOnFrom p whole next a heard
+    → ((t : Assigned) → AreCovered p heard t → AreCovered p kept t) → GoOnFrom p old hyps a kept
 heard_on p hyps next heard kept old whole a still carries goes keep = λ t u before sound may follows.
     keep u (goes t u (λ is. carries is t sound may (before (still is))) sound may follows)
 
 -- ---- with other places in the trail
 
-pub moved_one : (p : Contents) (t : Assigned) (xs ys : List Hypothesis) (h g : Hypothesis) → g.standing ≡ h.standing → g.group ≡ h.group → AreCovered p (xs ++ h ∷ ys) t → AreCovered p ((xs ++ g ∷ []) ++ ys) t
+pub moved_one : (p : Contents) (t : Assigned) (xs ys : List Hypothesis) (h g : Hypothesis)
+    → g.standing ≡ h.standing → g.group ≡ h.group → AreCovered p (xs ++ h ∷ ys) t → AreCovered p ((xs ++ g ∷ []) ++ ys) t
 moved_one p t xs ys h g stands group c = by xs c.place c.is
   where
     covers : (x : Hypothesis) → x ≡ h → Covers p x t → Covers p g t
-    covers x same k = subst (λ (s : Standing). StandsLater p.codes.first_ldu s t.number t.give_ups ⊎ (Stands p.codes.first_ldu s t.number t.give_ups × FitsGroup p g.group t.unit)) (sym stands)
-        (subst (λ (o : Option Group). StandsLater p.codes.first_ldu h.standing t.number t.give_ups ⊎ (Stands p.codes.first_ldu h.standing t.number t.give_ups × FitsGroup p o t.unit)) (sym group) (subst (λ (y : Hypothesis). Covers p y t) same k))
+    covers x same k =
+        subst (λ (s : Standing). StandsLater p.codes.first_ldu s t.number t.give_ups
+        ⊎ (Stands p.codes.first_ldu s t.number t.give_ups × FitsGroup p g.group t.unit)) (sym stands)
+        (subst (λ (o : Option Group). StandsLater p.codes.first_ldu h.standing t.number t.give_ups
+        ⊎ (Stands p.codes.first_ldu h.standing t.number t.give_ups × FitsGroup p o t.unit))
+        (sym group) (subst (λ (y : Hypothesis). Covers p y t) same k))
 
     Found : List Hypothesis → Type 0
     Found l = AreCovered p l t
@@ -218,30 +262,40 @@ moved_one p t xs ys h g stands group c = by xs c.place c.is
 -- ---- along the attempts
 
 -- of an attempt that is known by its first and its last word
-attempt_in : (p : Contents) (items : List Seen) (from to : ℕ) (o : Option Attempt) (a : Attempt) → o ≡ Some a → IfSome o (IsAttemptFrom p items from to) → IsAttemptFrom p items from to a
+attempt_in : (p : Contents) (items : List Seen) (from to : ℕ) (o : Option Attempt) (a : Attempt)
+    → o ≡ Some a → IfSome o (IsAttemptFrom p items from to) → IsAttemptFrom p items from to a
 attempt_in p items from to o a is h = subst (λ (q : Option Attempt). IfSome q (IsAttemptFrom p items from to)) is h
 
-pub is_refused : (p : Contents) (items : List Seen) (from to : ℕ) (hyps : List Hypothesis) (o : Option Attempt) (a : Attempt) (q : Contents) → q ≡ p → o ≡ Some a → IfSome o (IsAttemptFrom p items from to) → FitsNone q hyps a → IsRefused p items hyps from to
-is_refused p items from to hyps o a q same is h none = (a, attempt_in p items from to o a is h, subst (λ (r : Contents). FitsNone r hyps a) same none)
+pub is_refused : (p : Contents) (items : List Seen) (from to : ℕ) (hyps : List Hypothesis) (o : Option Attempt) (a : Attempt) (q : Contents)
+    → q ≡ p → o ≡ Some a → IfSome o (IsAttemptFrom p items from to) → FitsNone q hyps a → IsRefused p items hyps from to
+is_refused p items from to hyps o a q same is h none =
+    (a, attempt_in p items from to o a is h, subst (λ (r : Contents). FitsNone r hyps a) same none)
 
 pub none_left : (p : Contents) (hyps next : List Hypothesis) (a : Attempt) → next ≡ [] → CarriesOn p hyps a next → FitsNone p hyps a
 none_left p hyps next a none carries t sound may covered =
     let c = carries t sound may covered in
-    let off : slice_get [] c.place ≡ Some c.hypothesis = subst (λ (l : List Hypothesis). slice_get l c.place ≡ Some c.hypothesis) none c.is in
+    let off : slice_get [] c.place ≡ Some c.hypothesis =
+    subst (λ (l : List Hypothesis). slice_get l c.place ≡ Some c.hypothesis) none c.is in
     absurd (cc off)
 
 -- after an attempt from which the hypotheses go on
-pub covers_on : (p : Contents) → IsProfile p → (items : List Seen) (from to : ℕ) (whole : Bool) (hyps next : List Hypothesis) (o : Option Attempt) (a : Attempt) (q : Contents) → q ≡ p → o ≡ Some a → IfSome o (IsAttemptFrom p items from to) → (whole ≡ true → CoverNext p (attempts p (take from items)) hyps) → GoOnFrom q whole hyps a next
+pub covers_on : (p : Contents) → IsProfile p → (items : List Seen) (from to : ℕ) (whole : Bool) (hyps next : List Hypothesis)
+    (o : Option Attempt) (a : Attempt) (q : Contents) → q ≡ p → o ≡ Some a → IfSome o (IsAttemptFrom p items from to)
+    → (whole ≡ true → CoverNext p (attempts p (take from items)) hyps) → GoOnFrom q whole hyps a next
     → CoverNext p (attempts p (take to items)) next
 covers_on p good items from to whole hyps next o a q same found h covers goes_so =
     let is = attempt_in p items from to o a found h in
     let goes = subst (λ (r : Contents). GoOnFrom r whole hyps a next) same goes_so in
     subst (λ l. CoverNext p l next) (sym is.all)
-    (cover_more p (attempts p (take from items)) (latest p (take to items)) whole hyps next (some_attempts p (fresh 0) (take from items)) covers
-    (λ t u before sound of follows. goes t u before sound (may_be_to p good (latest p (take to items)) a t is.is sound of) (subst (λ (b : Bool). IsNext p.codes (Some t) b u) (sym is.is.acked) follows)))
+    (cover_more p (attempts p (take from items)) (latest p (take to items)) whole hyps next
+    (some_attempts p (fresh 0) (take from items)) covers
+    (λ t u before sound of follows. goes t u before sound (may_be_to p good (latest p (take to items)) a t is.is sound of)
+    (subst (λ (b : Bool). IsNext p.codes (Some t) b u) (sym is.is.acked) follows)))
 
 -- at a word with which the attempt fits none of them
-pub no_run_at : (p : Contents) → IsProfile p → ((items : List Seen) → BeginsARun p items → IsAssignable p items) → (items : List Seen) (from entry : ℕ) (hyps : List Hypothesis) → CoverNext p (attempts p (take from items)) hyps → IsRefused p items hyps from (entry + 1) → HasNoRun p items entry
+pub no_run_at : (p : Contents) → IsProfile p → ((items : List Seen) → BeginsARun p items → IsAssignable p items)
+    → (items : List Seen) (from entry : ℕ) (hyps : List Hypothesis) → CoverNext p (attempts p (take from items)) hyps
+    → IsRefused p items hyps from (entry + 1) → HasNoRun p items entry
 no_run_at p good law items from entry hyps covers (a, is, none) run =
     let to = entry + 1 in
     not_assignable p (take to items) (attempts p (take from items)) (latest p (take to items)) hyps is.all covers

@@ -4,7 +4,8 @@ use Rattle.a429_link.specs.declared.number.UnitNumber.{UnitNumber}
 use Rattle.a429_link.specs.Group.{IsFurther}
 
 -- that of another file is at most 128 files past
-pub follows_file : (n m : UnitNumber) (k : ℕ) → n.file ≤ 255 → m.file ≤ 255 → k ≡ (m.file + (256 - n.file)) % 256 → k ≢ 0 → (k ≤ 128) ↔ ((m ≡ n) ⊎ IsFurther n m)
+pub follows_file : (n m : UnitNumber) (k : ℕ)
+    → n.file ≤ 255 → m.file ≤ 255 → k ≡ (m.file + (256 - n.file)) % 256 → k ≢ 0 → (k ≤ 128) ↔ ((m ≡ n) ⊎ IsFurther n m)
 follows_file n m k a b is other = (
   (λ l. inr (inr (k, omega (arith, other), l, omega (arith, a, b, is)))),
   (λ h. elim h [

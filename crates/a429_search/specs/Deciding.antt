@@ -1,13 +1,15 @@
 -- Which verdict `decide` gives (profile).
-use Rattle.std.specs.Prelude.{◌≡◌, ◌+◌, ◌≤◌, ◌<◌, ◌⊎◌, ℕ, List, length, slice_get}
+use Rattle.std.specs.Prelude.{◌≡◌, ◌+◌, ◌≤◌, ◌<◌, ◌⊎◌, ℕ, IfSome, List, length, slice_get, take}
 use Rattle.a429_profile.specs.Profile.{Contents}
 use Rattle.a429_link.specs.declared.seen.Seen.{Seen}
 use Rattle.a429_link.specs.Observer.{IsRefused}
+use Rattle.a429_link.specs.Run.{BeginsARun}
 use Rattle.a429_explain.specs.declared.verdict.Reason.{Reason}
 use Rattle.a429_explain.specs.declared.verdict.Reason.TheVariants.{NoRun}
 use Rattle.a429_explain.specs.declared.verdict.Verdict.{Verdict}
 use Rattle.a429_explain.specs.declared.verdict.Verdict.TheVariants.{Explained, Impossible, Unexplained}
 use Rattle.a429_explain.specs.declared.verdict.Doubt.{Doubt}
+use Rattle.a429_explain.specs.declared.verdict.Doubt.TheVariants.{NotReplayed, OutOfSteps}
 use Rattle.a429_explain.specs.Verdict.{IsFirst}
 use Rattle.a429_explain.specs.Walk.{AreAllowedUpTo, FitsAt}
 use Rattle.a429_explain.specs.Guess.{IsGuess}
@@ -45,7 +47,7 @@ pub record IsNoRun (p : Contents) (items : List Seen) (c : Contradiction) : Type
 abbrev pub IsJudged : Contents → List Seen → Judged → Type 0
 IsJudged p items (judged.NoRun c) = IsNoRun p items c
 IsJudged p items (judged.Guessed guess) = IsGuess p items guess × HasNoContradiction p items (length items)
-IsJudged p items judged.Nothing = HasNoContradiction p items (length items)
+IsJudged p items (judged.CutShort at) = IfSome at (λ i. i < length items) × HasNoContradiction p items (length items)
 
 -- the verdict says that no run's trace begins with the words up to item i, or with fewer
 abbrev pub IsImpossibleUpTo : ℕ → Verdict → Type 0
@@ -58,8 +60,16 @@ pub record HasDoubt (p : Contents) (items : List Seen) : Type 0 where
   pub doubt : Doubt
   pub is : IsFirst p items (Unexplained entry doubt)
 
--- a doubt is that of `check`; an explanation is that of `check`, or a search explains the words of which `check` has a doubt
+-- an explanation is that of `check`, or a search explains the words of which `check` has a doubt; where `decide` has one, `check` does, too
 abbrev pub IsOfCheck : Contents → List Seen → Verdict → Type 0
 IsOfCheck p items (Explained certificate files) = IsFirst p items (Explained certificate files) ⊎ HasDoubt p items
 IsOfCheck p items (Impossible i reason) = Unit {0}
-IsOfCheck p items (Unexplained i doubt) = IsFirst p items (Unexplained i doubt)
+IsOfCheck p items (Unexplained i doubt) = HasDoubt p items
+
+-- why it is neither: the search was cut short; or the steps that it guessed cannot be made at this entry, and some run's trace begins with
+-- the words before it
+abbrev pub IsLeftOpen : Contents → List Seen → Verdict → Type 0
+IsLeftOpen p items (Unexplained i OutOfSteps) = Unit {0}
+IsLeftOpen p items (Unexplained i NotReplayed) = BeginsARun p (take i items)
+IsLeftOpen p items (Unexplained i doubt) = ⊥
+IsLeftOpen p items _ = Unit {0}

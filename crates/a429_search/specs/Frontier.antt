@@ -71,8 +71,8 @@ HasFewest hyps place = (best : Hypothesis) × (slice_get hyps place ≡ Some bes
 abbrev pub IsRefused : Contents → List Seen → List Hypothesis → ℕ → ℕ → Type 0
 IsRefused p items hyps from to = (a : Attempt) × IsAttemptFrom p items from to a × FitsNone p hyps a
 
--- what a search answers: what is guessed of the run, or an entry with which no run's words begin
+-- what a search answers: what is guessed of the run, or an entry with which no run's words begin, or an entry at which it was cut short
 abbrev pub IsFound : HeardValue → Found → Type 0
 IsFound d (found.Run guess) = IsGuess d.profile d.items guess
 IsFound d (found.NoRun entry) = (entry < length d.items) × HasNoRun d.profile d.items entry
-IsFound d found.Nothing = Unit {0}
+IsFound d (found.CutShort entry) = IfSome entry (λ i. i < length d.items)

@@ -1,8 +1,9 @@
 -- The attempt that another attempt is held against, where no link data unit has the words of both (ARINC 429 Part 3).
-use Rattle.std.specs.Prelude.{ℕ, suc, ◌≡◌, ◌≢◌, ◌⊎◌, ◌<◌, Bool, true, false, if◌then◌else◌, List, [], ◌∷◌, ◌++◌, length, slice_get, Option, Some, None}
+use Rattle.std.specs.Prelude.{ℕ, suc, ◌≡◌, ◌≢◌, ◌⊎◌, ◌+◌, ◌<◌, Bool, true, false, if◌then◌else◌, List, [], ◌∷◌, ◌++◌, length, slice_get, Option, Some, None}
 use Rattle.a429_word.specs.declared.bus.Bus.{Bus}
 use Rattle.a429_word.specs.declared.bus.Bus.TheVariants as bus
 use Rattle.a429_profile.specs.Profile.{Contents}
+use Rattle.a429_profile.specs.declared.codes.Codes.{Codes}
 use Rattle.a429_ldu.specs.declared.forms.Form.{Form}
 use Rattle.a429_ldu.specs.declared.forms.Form.TheVariants.{Rts, Cts, Ack, Sot, Part, Eot}
 use Rattle.a429_ldu.specs.Form.{form_of}
@@ -12,6 +13,7 @@ use Rattle.a429_link.specs.Attempt.{Attempt, HasNumber, asks, fresh, latest}
 use Rattle.a429_link.specs.Group.{AcksOnly}
 use Rattle.a429_link.specs.Number.{is_number}
 use Rattle.a429_link.specs.Run.{IsSubsequenceOf}
+use Rattle.a429_link.specs.WholeBlock.{data_words}
 use Rattle.a429_search.specs.declared.rival.Rival.{Rival}
 
 -- an attempt, and the entry of its request, where there is one
@@ -75,24 +77,24 @@ after entry _ w _ t = t
 
 -- ---- two attempts
 
--- a list that has the words of both has more words than are asked for
-abbrev pub AreMoreWords : Attempt → Attempt → Type 0
-AreMoreWords a b = (zs : List ℕ) → IsSubsequenceOf a.words zs → IsSubsequenceOf b.words zs → a.count < length zs
+-- a list that has the data words of both makes, with a start word and an end word, more words than are asked for
+abbrev pub AreMoreWords : Codes → Attempt → Attempt → Type 0
+AreMoreWords c a b = (zs : List ℕ) → IsSubsequenceOf (data_words c a.words) zs → IsSubsequenceOf (data_words c b.words) zs → a.count < length zs + 2
 
 -- no link data unit has the words of both: this is the first one, by its request and what both ask for
-pub record IsRivalOf (one now : Asked) (r : Rival) : Type 0 where
+pub record IsRivalOf (c : Codes) (one now : Asked) (r : Rival) : Type 0 where
   pub request : one.request ≡ Some r.request
   pub before : r.before ≡ one.attempt.count
   pub count : r.count ≡ now.attempt.count
-  pub apart : (r.before ≢ r.count) ⊎ AreMoreWords one.attempt now.attempt
+  pub apart : (r.before ≢ r.count) ⊎ AreMoreWords c one.attempt now.attempt
 
 -- it is one of those that are kept, and the attempt that is under way has a start word with the number
-pub record IsRival (t : Attempts) (r : Rival) : Type 0 where
+pub record IsRival (c : Codes) (t : Attempts) (r : Rival) : Type 0 where
   pub named : t.named ≡ true
   pub place : ℕ
   pub one : Asked
   pub is : slice_get t.kept place ≡ Some one
-  pub rival : IsRivalOf one t.last r
+  pub rival : IsRivalOf c one t.last r
 
 -- ---- of a recording
 
@@ -131,4 +133,4 @@ pub record IsRivalAt (p : Contents) (items : List Seen) (r : Rival) : Type 0 whe
   pub unit : AreOfOneUnit p here items
   pub before : r.before ≡ (latest p here).count
   pub count : r.count ≡ (latest p items).count
-  pub apart : (r.before ≢ r.count) ⊎ AreMoreWords (latest p here) (latest p items)
+  pub apart : (r.before ≢ r.count) ⊎ AreMoreWords p.codes (latest p here) (latest p items)

@@ -1,19 +1,20 @@
 //! The decision on a recording: the check, then what its words contradict, and where no certificate is known a search for a run, or for
 //! the first word at which no run goes on.
 
-ghost use Rattle.std.specs.Prelude.{◌≡◌, ◌<◌, ℕ, Ok, None, IfOk, IfSome, length};
+ghost use Rattle.std.specs.Prelude.{◌≡◌, ◌<◌, ℕ, true, Ok, None, IfOk, IfSome, length};
 ghost use Rattle.a429_cert.specs.Explained.{items_of};
 ghost use Rattle.a429_explain.specs.Verdict.{IsSoundVerdict, IsOfSomeRun, IsAccepted, IsOfLeastVersion, IsDoubted, HasNoForm, IsImpossibility, IsExplanation};
 ghost use Rattle.a429_explain.specs.Walk.{AreAllowedUpTo};
 ghost use Rattle.a429_explain.specs.WithoutLoss.{IsWithoutLoss};
+ghost use Rattle.a429_link.specs.Run.{BeginsARun};
 ghost use Rattle.a429_search.specs.Contradiction.{HasNoContradiction, HasNoRun};
-ghost use Rattle.a429_search.specs.Deciding.{IsImpossibleBy, IsImpossibleUpTo, IsJudged, IsNoRun, IsOfCheck, IsReasonAt};
+ghost use Rattle.a429_search.specs.Deciding.{IsImpossibleBy, IsImpossibleUpTo, IsJudged, IsLeftOpen, IsNoRun, IsOfCheck, IsReasonAt};
 
 use crate::contradiction::{Contradiction, first_contradiction, what_contradicts_has_no_run};
 use crate::searching::{Found, search_for_run};
 use a429_cert::OutOfMemory;
 use a429_explain::walk::walk;
-use a429_explain::{Guess, Reason, Refusal, Verdict, check, explain_by};
+use a429_explain::{Doubt, Guess, Reason, Refusal, Verdict, check, explain_by};
 use a429_profile::Profile;
 use a429_record::Entry;
 use std::alloc::Global;
@@ -25,15 +26,16 @@ enum Judged {
     NoRun(Contradiction),
     // What is guessed of a run.
     Guessed(Guess),
-    // Neither.
-    Nothing,
+    // Neither: the search was cut short, at this entry, where that is known.
+    CutShort(Option<usize>),
 }
 
 /// The verdict on a recording, under the profile of its bench: that of `check`, where it explains the recording. Else the
 /// recording is impossible from the first word on that those before it do not allow, or that contradicts them, by the
 /// first of `BadBlock`, `WrongNumber` and `OtherBlock` that holds; or from an earlier word on, by `NoRun`, at which a search finds that
-/// no run goes on. Where there is no such word, the certificate of a run that the search finds explains the recording. Where it finds none
-/// the doubt of `check` stays.
+/// no run goes on. Where there is no such word, the certificate of a run that the search finds explains the recording. Else the
+/// doubt is `NotReplayed`, at the entry at which the steps that the search guessed cannot be made, or `OutOfSteps`, at the request of the
+/// attempt at which the search was cut short.
 pub fn decide(alloc: Global, profile: &Profile, entries: &[Entry]) -> Result<Verdict, OutOfMemory>
     ensures explained { IfOk result (λ v. IsSoundVerdict profile.now (items_of entries.now) v) }
     ensures some_run { IfOk result (λ v. IsOfSomeRun profile.now (items_of entries.now) v) }
@@ -41,6 +43,7 @@ pub fn decide(alloc: Global, profile: &Profile, entries: &[Entry]) -> Result<Ver
     ensures version { IfOk result (λ v. IsOfLeastVersion profile.now (items_of entries.now) v) }
     ensures impossible { IfOk result (λ v. IsImpossibleBy profile.now (items_of entries.now) v) }
     ensures first { (i : ℕ) (reason : Reason) → IsReasonAt profile.now (items_of entries.now) i reason → IfOk result (IsImpossibleUpTo i) }
+    ensures left_open { IfOk result (λ v. IsLeftOpen profile.now (items_of entries.now) v) }
     ensures doubted { IfOk result (λ v. IsDoubted profile.now (items_of entries.now) v) }
     ensures of_check { IfOk result (λ v. IsOfCheck profile.now (items_of entries.now) v) }
     ensures no_form { HasNoForm profile.now.codes (items_of entries.now) → IfOk result IsImpossibility }
@@ -62,7 +65,7 @@ pub fn decide(alloc: Global, profile: &Profile, entries: &[Entry]) -> Result<Ver
                 Err(OutOfMemory) => Err(OutOfMemory),
             }
         }
-        Ok(Verdict::Unexplained { entry, doubt }) => match look_closer(alloc, profile, entries) {
+        Ok(Verdict::Unexplained { entry, .. }) => match look_closer(alloc, profile, entries) {
             Ok(Judged::NoRun(Contradiction { entry, reason })) => {
                 Ok(Verdict::Impossible { entry, reason })
             }
@@ -71,12 +74,34 @@ pub fn decide(alloc: Global, profile: &Profile, entries: &[Entry]) -> Result<Ver
                     certificate: found.certificate,
                     files: found.files,
                 }),
-                Err(Refusal::NotReplayed { .. }) => Ok(Verdict::Unexplained { entry, doubt }),
+                Err(Refusal::NotReplayed { entry }) => Ok(Verdict::Unexplained {
+                    entry,
+                    doubt: Doubt::NotReplayed,
+                }),
                 Err(Refusal::OutOfMemory) => Err(OutOfMemory),
             },
-            Ok(Judged::Nothing) => Ok(Verdict::Unexplained { entry, doubt }),
+            Ok(Judged::CutShort(at)) => Ok(Verdict::Unexplained {
+                entry: at.unwrap_or(entry),
+                doubt: Doubt::OutOfSteps,
+            }),
             Err(OutOfMemory) => Err(OutOfMemory),
         },
+        Err(OutOfMemory) => Err(OutOfMemory),
+    }
+}
+
+/// Whether some run's words begin with these: `decide` explains them. `false` says nothing: it was not found. Of the words before an
+/// entry that is impossible `true` says that no earlier entry is.
+pub fn begins_a_run(
+    alloc: Global,
+    profile: &Profile,
+    entries: &[Entry],
+) -> Result<bool, OutOfMemory>
+    ensures { result ≡ Ok true → BeginsARun profile.now (items_of entries.now) }
+{
+    match decide(alloc, profile, entries) {
+        Ok(Verdict::Explained { .. }) => Ok(true),
+        Ok(_) => Ok(false),
         Err(OutOfMemory) => Err(OutOfMemory),
     }
 }
@@ -94,7 +119,7 @@ fn earlier(
     match look_closer(alloc, profile, entries)? {
         Judged::NoRun(found) => Ok(Some(found)),
         Judged::Guessed(_) => Ok(None),
-        Judged::Nothing => Ok(None),
+        Judged::CutShort(_) => Ok(None),
     }
 }
 
@@ -104,7 +129,7 @@ fn look_closer(alloc: Global, profile: &Profile, entries: &[Entry]) -> Result<Ju
     ensures { IfOk result (IsJudged profile.now (items_of entries.now)) }
 {
     let Ok(decoded) = walk(alloc, profile, entries) else {
-        return Ok(Judged::Nothing);
+        return Ok(Judged::CutShort(None));
     };
     let Ok(found) = first_contradiction(alloc, &decoded) else {
         return Err(OutOfMemory);
@@ -124,7 +149,7 @@ fn look_closer(alloc: Global, profile: &Profile, entries: &[Entry]) -> Result<Ju
             let reason = Reason::NoRun;
             Ok(Judged::NoRun(Contradiction { entry, reason }))
         }
-        Ok(Found::Nothing) => Ok(Judged::Nothing),
+        Ok(Found::CutShort { entry }) => Ok(Judged::CutShort(entry)),
         Err(_) => Err(OutOfMemory),
     }
 }

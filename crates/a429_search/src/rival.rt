@@ -1,15 +1,16 @@
 //! The attempt that another attempt is held against, where no link data unit has the words of both.
 
-ghost use Rattle.std.specs.Prelude.{◌≡◌, ◌↔◌, length, IfOk, IfSome, IsTrue, OnOk};
+ghost use Rattle.std.specs.Prelude.{◌≡◌, ◌∷◌, [], if◌then◌else◌, IfOk, IfSome, IsTrue, OnOk};
 ghost use Rattle.a429_link.specs.Attempt.{fresh};
-ghost use Rattle.a429_link.specs.Run.{IsSubsequenceOf};
+ghost use Rattle.a429_link.specs.WholeBlock.{data_words};
 ghost use Rattle.a429_search.specs.Rival.{AreMoreWords, IsRival, IsRivalAt, IsRivalOf, after, at_first, cleared, heard, joined, started, with_request};
 
 use crate::pair::merge_shortest;
 use crate::subsequence::is_subsequence;
 use a429_explain::Decoded;
 use a429_ldu::Form;
-use a429_link::{Seen, UnitNumber};
+use a429_link::{Seen, UnitNumber, form_of};
+use a429_profile::Profile;
 use a429_word::{Bus, Word};
 use std::alloc::{AllocError, Global};
 use std::marker::Model;
@@ -76,7 +77,7 @@ pub(crate) fn rival_of(alloc: Global, decoded: &Decoded) -> Result<Option<Rival>
         let form = decoded.word(entry).form;
         attempts.take(entry, &seen, form)?;
     }
-    attempts.rival()
+    attempts.rival(decoded.profile())
 }
 
 impl Asked {
@@ -98,45 +99,54 @@ impl Asked {
         usize::from(self.count)
     }
 
-    // How many words were recorded.
-    fn len(&self) -> usize
-        ensures { result ≡ length self.now.attempt.words }
+    // Its data words.
+    fn data(&self, alloc: Global, profile: &Profile) -> Result<Vec<Word>, AllocError>
+        ensures { IfOk result (λ words. words.items ≡ data_words profile.now.codes self.now.attempt.words) }
     {
-        self.words.len()
+        let mut data = Vec::new(alloc);
+        for place in 0..self.words.len() {
+            let word = self.words[place];
+            if is_data(profile, word) {
+                data.push(word)?;
+            }
+        }
+        Ok(data)
     }
 
-    // The words of the other attempt are some of its own, in their order.
-    fn has(&self, other: &Asked) -> bool
-        ensures { IsTrue result ↔ IsSubsequenceOf other.now.attempt.words self.now.attempt.words }
-    {
-        is_subsequence(&other.words, &self.words)
-    }
-
-    // A list that has the words of both, which ask for as many, has more words than they ask for.
-    fn has_more_words_with(&self, alloc: Global, other: &Asked) -> Result<bool, AllocError>
+    // A list that has the data words of both, which ask for as many words, has more than a block of so many words.
+    fn has_more_words_with(
+        &self,
+        alloc: Global,
+        profile: &Profile,
+        other: &Asked,
+    ) -> Result<bool, AllocError>
         requires { self.now.attempt.count ≡ other.now.attempt.count }
-        ensures { IfOk result (λ found. IsTrue found → AreMoreWords self.now.attempt other.now.attempt) }
+        ensures { IfOk result (λ found. IsTrue found → AreMoreWords profile.now.codes self.now.attempt other.now.attempt) }
     {
         let most = self.count();
-        let (ours, others) = (self.len(), other.len());
-        if ours == most {
-            return Ok(!self.has(other));
+        let ours = self.data(alloc, profile)?;
+        let others = other.data(alloc, profile)?;
+        if ours.len() + 2 == most {
+            return Ok(!is_subsequence(&others, &ours));
         }
-        if others == most {
-            return Ok(!other.has(self));
+        if others.len() + 2 == most {
+            return Ok(!is_subsequence(&ours, &others));
         }
-        if ours > MOST_MERGED || others > MOST_MERGED {
+        if ours.len() > MOST_MERGED || others.len() > MOST_MERGED {
             return Ok(false);
         }
-        let merged = merge_shortest(alloc, &self.words, &other.words)?;
-        Ok(merged.len() > most)
+        let merged = merge_shortest(alloc, &ours, &others)?;
+        Ok(merged.len() + 2 > most)
     }
-}
 
-impl Asked {
     // This attempt, where no link data unit has the words of it and of the other one.
-    fn rival_with(&self, alloc: Global, other: &Asked) -> Result<Option<Rival>, AllocError>
-        ensures { IfOk result (λ found. IfSome found (IsRivalOf self.now other.now)) }
+    fn rival_with(
+        &self,
+        alloc: Global,
+        profile: &Profile,
+        other: &Asked,
+    ) -> Result<Option<Rival>, AllocError>
+        ensures { IfOk result (λ found. IfSome found (IsRivalOf profile.now.codes self.now other.now)) }
     {
         let Some(request) = self.request else {
             return Ok(None);
@@ -149,8 +159,18 @@ impl Asked {
         if self.count != other.count {
             return Ok(Some(rival));
         }
-        let has_more = self.has_more_words_with(alloc, other)?;
+        let has_more = self.has_more_words_with(alloc, profile, other)?;
         if has_more { Ok(Some(rival)) } else { Ok(None) }
+    }
+}
+
+// Whether a word of bus A is a data word.
+fn is_data(profile: &Profile, word: Word) -> bool
+    ensures { data_words profile.now.codes (word ∷ []) ≡ if result then word ∷ [] else [] }
+{
+    match form_of(profile, Bus::A, word) {
+        Some(Form::Part(_)) => true,
+        Some(_) | None => false,
     }
 }
 
@@ -249,14 +269,14 @@ impl Attempts {
     }
 
     // The first attempt that is kept of which no link data unit has the words and those of the last, which is to send the same unit.
-    fn rival(&self) -> Result<Option<Rival>, AllocError>
-        ensures { IfOk result (λ found. IfSome found (IsRival self.now)) }
+    fn rival(&self, profile: &Profile) -> Result<Option<Rival>, AllocError>
+        ensures { IfOk result (λ found. IfSome found (IsRival profile.now.codes self.now)) }
     {
         if !self.is_named {
             return Ok(None);
         }
         for place in 0..self.kept.len() {
-            let found = self.kept[place].rival_with(self.alloc, &self.last)?;
+            let found = self.kept[place].rival_with(self.alloc, profile, &self.last)?;
             if found.is_some() {
                 return Ok(found);
             }

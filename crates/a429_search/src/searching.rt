@@ -4,6 +4,7 @@ ghost use Rattle.std.specs.Prelude.{◌≡◌, ◌<◌, ◌≤◌, ◌+◌, ℕ,
 ghost use Rattle.a429_profile.specs.Profile.{Contents};
 ghost use Rattle.a429_ldu.specs.Ldu.{LduValue};
 ghost use Rattle.a429_link.specs.Assignment.{Assigned, IsSound};
+ghost use Rattle.a429_explain.specs.Guess.{IsGuess};
 ghost use Rattle.a429_search.specs.Block.{MayBeUnitOf};
 ghost use Rattle.a429_search.specs.Frontier.{AreAt, AreCovered, AreKept, CarriesOn, Covers, FitsGroup, FitsNone, GoOnFrom, HasFewest, IsAmong, IsFound, IsRefused, IsStart};
 ghost use Rattle.a429_search.specs.Recorded.{MayBeOf, MayBeTo, number_of};
@@ -41,8 +42,8 @@ pub(crate) enum Found {
     Run(Guess),
     /// No run's words begin with those up to this entry.
     NoRun { entry: usize },
-    /// Neither.
-    Nothing,
+    /// Neither: the search was cut short. The entry is that of the request at which it first was, where that is known.
+    CutShort { entry: Option<usize> },
 }
 
 // What carries hypotheses on: the groups that they have closed, and the steps that are left.
@@ -63,7 +64,8 @@ struct Search<'a> {
 }
 
 /// Carries hypotheses on from attempt to attempt. Where none is left at one, and nothing was left out before, no run goes on there:
-/// the answer is the first of its entries at which none is left. Else what the hypothesis with the fewest files given up says of a run.
+/// the answer is an entry of it with which none is left, found by halving. Else what the hypothesis with the fewest files given up
+/// says of a run.
 pub(crate) fn search_for_run(alloc: Global, decoded: &Decoded) -> Result<Found, AllocError>
     ensures { IfOk result (IsFound decoded.now) }
 {
@@ -71,19 +73,28 @@ pub(crate) fn search_for_run(alloc: Global, decoded: &Decoded) -> Result<Found, 
     let profile = decoded.profile();
     let mut search = Search::new(alloc, decoded)?;
     let mut from = first_request(decoded);
+    let mut cut_at = None;
     'attempts: while from < decoded.len() {
         let to = next_request(decoded, from);
         let Some(attempt) = attempt_of(alloc, decoded, from, to)? else {
             // Never: there is a request, and no other before the next one.
-            return Ok(Found::Nothing);
+            return Ok(Found::CutShort { entry: None });
         };
         if !search.take(profile, &attempt)? {
             let entry = search.first_refused(decoded, from, to)?;
             return Ok(Found::NoRun { entry });
         }
+        cut_at = if search.is_whole {
+            None
+        } else {
+            cut_at.or(Some(from))
+        };
         from = to;
     }
-    search.guess(decoded)
+    match search.guess(decoded)? {
+        Some(guess) => Ok(Found::Run(guess)),
+        None => Ok(Found::CutShort { entry: cut_at }),
+    }
 }
 
 impl<'a> Search<'a> {
@@ -159,9 +170,9 @@ impl<'a> Search<'a> {
         self.is_whole && !self.carrier.budget.is_cut()
     }
 
-    // What is guessed by the hypothesis with the fewest files given up.
-    fn guess(self, decoded: &Decoded) -> Result<Found, AllocError>
-        ensures { IfOk result (IsFound decoded.now) }
+    // What is guessed by the hypothesis with the fewest files given up; `None` where none is left.
+    fn guess(self, decoded: &Decoded) -> Result<Option<Guess>, AllocError>
+        ensures { IfOk result (λ found. IfSome found (IsGuess decoded.now.profile decoded.now.items)) }
     {
         let Search {
             hypotheses,
@@ -174,7 +185,7 @@ impl<'a> Search<'a> {
             ..
         } = carrier;
         let Some(place) = fewest(&hypotheses) else {
-            return Ok(Found::Nothing);
+            return Ok(None);
         };
         let best = &hypotheses[place];
         let last = trail.close(best, None)?;
@@ -184,7 +195,7 @@ impl<'a> Search<'a> {
         } = trail.course(decoded.profile(), last)?;
         let roles = roles(alloc, decoded)?;
         let roles = with_heard(alloc, &roles, entries)?;
-        Ok(Found::Run(Guess {
+        Ok(Some(Guess {
             first_file: best.standing.first_file,
             roles,
             plans,

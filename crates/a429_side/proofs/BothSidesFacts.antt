@@ -37,7 +37,8 @@ mirror_named c bus.B f = refl
 belongs_alike : (c d : Codes) → IsMirror c d → (i : Seen) → belongs d i ≡ belongs (mirrored c) i
 belongs_alike c d m i =
     let free = free_alike c d m i.bus i.word in
-    let named : is_named d i.bus (fields_of i.word) ≡ is_named (mirrored c) i.bus (fields_of i.word) = named_alike c d m i.bus (fields_of i.word) ∙ sym (mirror_named c i.bus (fields_of i.word)) in
+    let named : is_named d i.bus (fields_of i.word) ≡ is_named (mirrored c) i.bus (fields_of i.word) =
+    named_alike c d m i.bus (fields_of i.word) ∙ sym (mirror_named c i.bus (fields_of i.word)) in
     rw (free, named) refl
 
 view_alike : (c d : Codes) → IsMirror c d → (items : List Seen) → view (mirrored c) items ≡ view d items
@@ -47,15 +48,33 @@ view_alike c d m (i ∷ items) =
     ∙ ap (λ (b : Bool). cond b (view d items) (i ∷ view d items)) (sym (belongs_alike c d m (turned i)))
 
 mirror_back : (c d : Codes) → IsMirror c d → IsMirror d c
-mirror_back c d m = record { to_sink = sym m.to_source; to_source = sym m.to_sink; full = sym m.full; partial = sym m.partial; protocol = sym m.protocol; sot = sym m.sot; eot = sym m.eot; rts = sym m.rts; cts = sym m.cts; ack = sym m.ack; nak = sym m.nak; ignored_types = sym m.ignored_types; ignored_codes = sym m.ignored_codes }
+mirror_back c d m = record {
+  to_sink = sym m.to_source;
+  to_source = sym m.to_sink;
+  full = sym m.full;
+  partial = sym m.partial;
+  protocol = sym m.protocol;
+  sot = sym m.sot;
+  eot = sym m.eot;
+  rts = sym m.rts;
+  cts = sym m.cts;
+  ack = sym m.ack;
+  nak = sym m.nak;
+  ignored_types = sym m.ignored_types;
+  ignored_codes = sym m.ignored_codes;
+}
 
 -- ---- what is written for a direction
 
-side_a : (p : Contents) (d : Codes) (es : List Entry) (files : List FileBytes) → IsMirror p.codes d → IsSideExplained p bus.A es files → items_of (side_of p.codes (on bus.A) es) ≡ view d (items_of es)
-side_a p d es files m h = here-view p.codes p.codes.destination (map _ es) h.here ∙ ap (λ (l : List Entry). view (mirrored p.codes) (items_of l)) (lined-same es) ∙ view_alike p.codes d m (items_of es)
+side_a : (p : Contents) (d : Codes) (es : List Entry) (files : List FileBytes)
+    → IsMirror p.codes d → IsSideExplained p bus.A es files → items_of (side_of p.codes (on bus.A) es) ≡ view d (items_of es)
+side_a p d es files m h = here-view p.codes p.codes.destination (map _ es) h.here
+    ∙ ap (λ (l : List Entry). view (mirrored p.codes) (items_of l)) (lined-same es) ∙ view_alike p.codes d m (items_of es)
 
-side_b : (q : Contents) (c : Codes) (es : List Entry) (files : List FileBytes) → IsMirror q.codes c → IsSideExplained q bus.B es files → items_of (side_of q.codes (on bus.B) es) ≡ view c (all_turned (items_of es))
-side_b q c es files m h = here-view q.codes q.codes.destination (map _ es) h.here ∙ ap (view (mirrored q.codes)) (lined-turned es) ∙ view_alike q.codes c m (all_turned (items_of es))
+side_b : (q : Contents) (c : Codes) (es : List Entry) (files : List FileBytes)
+    → IsMirror q.codes c → IsSideExplained q bus.B es files → items_of (side_of q.codes (on bus.B) es) ≡ view c (all_turned (items_of es))
+side_b q c es files m h = here-view q.codes q.codes.destination (map _ es) h.here ∙ ap (view (mirrored q.codes)) (lined-turned es)
+    ∙ view_alike q.codes c m (all_turned (items_of es))
 
 -- ---- both
 
@@ -64,22 +83,30 @@ run_of p b es files h =
     let run = in_some_run p h.certificate (items_of (side_of p.codes (on b) es)) files h.explained in
     record { first = run.first; steps = run.steps; is_run = record { sound = h.sound; byte = run.byte; run = run.run } }
 
-records : (p : Contents) (b : Bus) (es : List Entry) (files : List FileBytes) (h : IsSideExplained p b es files) → trace (run_of p b es files h).steps ≡ items_of (side_of p.codes (on b) es)
+records : (p : Contents) (b : Bus) (es : List Entry) (files : List FileBytes) (h : IsSideExplained p b es files)
+    → trace (run_of p b es files h).steps ≡ items_of (side_of p.codes (on b) es)
 records p b es files h = (in_some_run p h.certificate (items_of (side_of p.codes (on b) es)) files h.explained).recorded
 
-pub both_explained : (p q : Contents) (es : List Entry) (files others : List FileBytes) → IsMirror p.codes q.codes → IsSideExplained p bus.A es files → IsSideExplained q bus.B es others → AreDuplexFiles p q (items_of es) files others
+pub both_explained : (p q : Contents) (es : List Entry) (files others : List FileBytes) → IsMirror p.codes q.codes
+    → IsSideExplained p bus.A es files → IsSideExplained q bus.B es others → AreDuplexFiles p q (items_of es) files others
 both_explained p q es files others m f s =
     let a = side_a p q.codes es files m f in
     let b = side_b q p.codes es others (mirror_back p.codes q.codes m) s in
     let separate : AreApart p.codes q.codes = apart p q.codes f.sound m in
-    let both = interleaved p q (run_of p bus.A es files f) (run_of q bus.B es others s) (items_of es) separate (records p bus.A es files f ∙ a) (records q bus.B es others s ∙ b) in
+    let both =
+    interleaved p q (run_of p bus.A es files f) (run_of q bus.B es others s) (items_of es) separate (records p bus.A es files f ∙ a)
+    (records q bus.B es others s ∙ b) in
     record {
       duplex = both.duplex;
       records = both.records;
       first = λ d same.
-          let seen : trace (firsts d.steps) ≡ items_of (side_of p.codes (on bus.A) es) = (views p q d separate).first ∙ ap (view q.codes) same ∙ sym a in
-          sym ((in_every_run p f.sound f.certificate _ files f.explained).delivered d.first (firsts d.steps) d.is_first.byte d.is_first.run seen).0;
+          let seen : trace (firsts d.steps) ≡ items_of (side_of p.codes (on bus.A) es) =
+          (views p q d separate).first ∙ ap (view q.codes) same ∙ sym a in
+          sym ((in_every_run p f.sound f.certificate _ files f.explained).delivered d.first
+          (firsts d.steps) d.is_first.byte d.is_first.run seen).0;
       second = λ d same.
-          let seen : trace (seconds d.steps) ≡ items_of (side_of q.codes (on bus.B) es) = (views p q d separate).second ∙ ap (λ (l : List Seen). view p.codes (all_turned l)) same ∙ sym b in
-          sym ((in_every_run q s.sound s.certificate _ others s.explained).delivered d.second (seconds d.steps) d.is_second.byte d.is_second.run seen).0;
+          let seen : trace (seconds d.steps) ≡ items_of (side_of q.codes (on bus.B) es) =
+          (views p q d separate).second ∙ ap (λ (l : List Seen). view p.codes (all_turned l)) same ∙ sym b in
+          sym ((in_every_run q s.sound s.certificate _ others s.explained).delivered d.second
+          (seconds d.steps) d.is_second.byte d.is_second.run seen).0;
     }

@@ -45,7 +45,21 @@ this_by false true free e f = refl
 this_by false false free e f = absurd (cc f)
 
 is_mirror : (c : Codes) → IsMirror c (mirrored c)
-is_mirror c = record { to_sink = refl; to_source = refl; full = refl; partial = refl; protocol = refl; sot = refl; eot = refl; rts = refl; cts = refl; ack = refl; nak = refl; ignored_types = refl; ignored_codes = refl }
+is_mirror c = record {
+  to_sink = refl;
+  to_source = refl;
+  full = refl;
+  partial = refl;
+  protocol = refl;
+  sot = refl;
+  eot = refl;
+  rts = refl;
+  cts = refl;
+  ack = refl;
+  nak = refl;
+  ignored_types = refl;
+  ignored_codes = refl;
+}
 
 formed_in : (p : Contents) → IsProfile p → (i : Seen) (x : Form) → form_of p.codes i.bus i.word ≡ Some x → direction_in p.codes i ≡ This
 formed_in p is i x e =
@@ -66,7 +80,8 @@ sight_formless true o e = absurd (cc e)
 pub sees_free : (c : Codes) (i : Seen) → sight_of c i.bus i.word ≡ sight.Free → direction_in c i ≡ Free
 sees_free c i e = free_in c i (sight_free _ _ e)
 
-pub sees_form : (p : Contents) → IsProfile p → (i : Seen) (x : Form) → sight_of p.codes i.bus i.word ≡ sight.Form x → direction_in p.codes i ≡ This
+pub sees_form : (p : Contents)
+    → IsProfile p → (i : Seen) (x : Form) → sight_of p.codes i.bus i.word ≡ sight.Form x → direction_in p.codes i ≡ This
 sees_form p is i x e = formed_in p is i x (sym (form_of-sight p.codes i.bus i.word) ∙ ap form_in e)
 
 pub sees_no_form : (c : Codes) (i : Seen) → sight_of c i.bus i.word ≡ sight.NoForm → is_free c i.bus i.word ≡ false

@@ -57,31 +57,41 @@ lined-more b (x ∷ es) e = ap (λ (l : List Entry). on_line b x ∷ l) (lined-m
 abbrev pub turn_of : Codes → Side → List Entry → ℕ
 turn_of c s es = last_of c c.destination (map (on_line s.line) es)
 
-pub turn_of-more : (c : Codes) (s : Side) (es : List Entry) (e : Entry) → turn_of c s (es ++ e ∷ []) ≡ last_with c (turn_of c s es) (on_line s.line e)
-turn_of-more c s es e = ap (last_of c c.destination) (lined-more s.line es e) ∙ last_of-more c c.destination (map (on_line s.line) es) (on_line s.line e)
+pub turn_of-more : (c : Codes) (s : Side) (es : List Entry) (e : Entry)
+    → turn_of c s (es ++ e ∷ []) ≡ last_with c (turn_of c s es) (on_line s.line e)
+turn_of-more c s es e =
+    ap (last_of c c.destination) (lined-more s.line es e) ∙ last_of-more c c.destination (map (on_line s.line) es) (on_line s.line e)
 
-pub lots_of-more : (c : Codes) (s : Side) (es : List Entry) (e : Entry) → lots_of c s (es ++ e ∷ []) ≡ lots_of c s es ++ lot_of c s.answer (turn_of c s es) (on_line s.line e) ∷ []
-lots_of-more c s es e = ap (lots c s.answer c.destination) (lined-more s.line es e) ∙ lots-more c s.answer c.destination (map (on_line s.line) es) (on_line s.line e)
+pub lots_of-more : (c : Codes) (s : Side) (es : List Entry) (e : Entry)
+    → lots_of c s (es ++ e ∷ []) ≡ lots_of c s es ++ lot_of c s.answer (turn_of c s es) (on_line s.line e) ∷ []
+lots_of-more c s es e = ap (lots c s.answer c.destination) (lined-more s.line es e)
+    ∙ lots-more c s.answer c.destination (map (on_line s.line) es) (on_line s.line e)
 
 -- what is written of one entry more
 abbrev pub written_next : Codes → Side → List Entry → Entry → Option Entry
 written_next c s es e = written c (lot_of c s.answer (turn_of c s es) (on_line s.line e)) (on_line s.line e)
 
-pub side_text-more : (c : Codes) (s : Side) (es : List Entry) (e : Entry) → side_text c s (es ++ e ∷ []) ≡ side_text c s es ++ flat_map line_text (with_written (written_next c s es e) [])
+pub side_text-more : (c : Codes) (s : Side) (es : List Entry) (e : Entry)
+    → side_text c s (es ++ e ∷ []) ≡ side_text c s es ++ flat_map line_text (with_written (written_next c s es e) [])
 side_text-more c s es e =
     ap (λ (l : List Entry). header_text ++ flat_map line_text (sided c s.answer c.destination l)) (lined-more s.line es e)
-    ∙ ap (λ (l : List Entry). header_text ++ flat_map line_text l) (sided-more c s.answer c.destination (map (on_line s.line) es) (on_line s.line e))
+    ∙ ap (λ (l : List Entry). header_text ++ flat_map line_text l)
+    (sided-more c s.answer c.destination (map (on_line s.line) es) (on_line s.line e))
     ∙ ap (λ (t : List ℕ). header_text ++ t) (flat_map-append line_text (side_of c s es) (with_written (written_next c s es e) []))
     ∙ sym (append_assoc header_text (flat_map line_text (side_of c s es)) (flat_map line_text (with_written (written_next c s es e) [])))
 
 -- what is written of the next entry, by the calls that find it
-pub written_is : (c d : Codes) (s : Side) (es : List Entry) (e entry : Entry) (lot : Lot) (last : ℕ) (o : Option Entry) → o ≡ written d lot entry → d ≡ c → lot ≡ lot_of c s.answer last entry → last ≡ turn_of c s es → entry ≡ on_line s.line e → o ≡ written_next c s es e
+pub written_is : (c d : Codes) (s : Side) (es : List Entry) (e entry : Entry) (lot : Lot) (last : ℕ) (o : Option Entry)
+    → o ≡ written d lot entry → d ≡ c → lot ≡ lot_of c s.answer last entry → last ≡ turn_of c s es → entry ≡ on_line s.line e
+    → o ≡ written_next c s es e
 written_is c d s es e entry lot last o is same lot_is last_is line_is = rw (is, same, lot_is, last_is, line_is) refl
 
-pub lot_is : (c : Codes) (s : Side) (es : List Entry) (e entry : Entry) (lot : Lot) (last : ℕ) → lot ≡ lot_of c s.answer last entry → last ≡ turn_of c s es → entry ≡ on_line s.line e → lots_of c s es ++ lot ∷ [] ≡ lots_of c s (es ++ e ∷ [])
+pub lot_is : (c : Codes) (s : Side) (es : List Entry) (e entry : Entry) (lot : Lot) (last : ℕ) → lot ≡ lot_of c s.answer last entry
+    → last ≡ turn_of c s es → entry ≡ on_line s.line e → lots_of c s es ++ lot ∷ [] ≡ lots_of c s (es ++ e ∷ [])
 lot_is c s es e entry lot last is last_is line_is = rw (is, last_is, line_is) (sym (lots_of-more c s es e))
 
-pub turn_is : (c : Codes) (s : Side) (es : List Entry) (e entry : Entry) (new last : ℕ) → new ≡ last_with c last entry → last ≡ turn_of c s es → entry ≡ on_line s.line e → new ≡ turn_of c s (es ++ e ∷ [])
+pub turn_is : (c : Codes) (s : Side) (es : List Entry) (e entry : Entry) (new last : ℕ)
+    → new ≡ last_with c last entry → last ≡ turn_of c s es → entry ≡ on_line s.line e → new ≡ turn_of c s (es ++ e ∷ [])
 turn_is c s es e entry new last is last_is line_is = rw (is, last_is, line_is) (sym (turn_of-more c s es e))
 
 lots-long : (c : Codes) (answer : Option ℕ) (last : ℕ) (es : List Entry) → length (lots c answer last es) ≡ length es
@@ -101,27 +111,38 @@ before_is c s (x ∷ es) e = refl
 
 -- ---- the view
 
-view_here : (c : Codes) (d : ℕ) (e : Entry) (r : Bool) (es : List Entry) (items : List Seen) (h : Bool) → ((n : ℕ) → items_of (sided c None n es) ≡ destined c n items)
-    → items_of (with_written (written c (cond h (cond false Renamed Kept) (Elsewhere d r)) e) (sided c None d es)) ≡ cond (true && not h) (destined c d items) (seen_of e ∷ destined c d items)
+view_here : (c : Codes) (d : ℕ) (e : Entry) (r : Bool) (es : List Entry) (items : List Seen) (h : Bool)
+    → ((n : ℕ) → items_of (sided c None n es) ≡ destined c n items)
+    → items_of (with_written (written c (cond h (cond false Renamed Kept) (Elsewhere d r)) e) (sided c None d es))
+    ≡ cond (true && not h) (destined c d items) (seen_of e ∷ destined c d items)
 view_here c d e r es items true more = ap (λ (l : List Seen). seen_of e ∷ l) (more d)
 view_here c d e r es items false more = more d
 
-view_step : (c : Codes) (last : ℕ) (e : Entry) (es : List Entry) (items : List Seen) (theirs ours free : Bool) → ((n : ℕ) → items_of (sided c None n es) ≡ destined c n items)
-    → items_of (with_written (written c (lot_in c None last e (by_tests theirs ours free)) e) (sided c None (last_in c last e (by_tests theirs ours free)) es))
-    ≡ cond theirs (destined c last items) (cond (ours && not (destination_at c last (seen_of e) == c.destination)) (destined c (destination_at c last (seen_of e)) items) (seen_of e ∷ destined c (destination_at c last (seen_of e)) items))
+view_step : (c : Codes) (last : ℕ) (e : Entry) (es : List Entry) (items : List Seen) (theirs ours free : Bool)
+    → ((n : ℕ) → items_of (sided c None n es) ≡ destined c n items)
+    → items_of (with_written (written c (lot_in c None last e (by_tests theirs ours free)) e)
+    (sided c None (last_in c last e (by_tests theirs ours free)) es))
+    ≡ cond theirs (destined c last items)
+    (cond (ours && not (destination_at c last (seen_of e) == c.destination)) (destined c (destination_at c last (seen_of e)) items)
+    (seen_of e ∷ destined c (destination_at c last (seen_of e)) items))
 view_step c last e es items true ours free more = more last
-view_step c last e es items false true free more = view_here c (destination_at c last (seen_of e)) e (is_request c (seen_of e)) es items (destination_at c last (seen_of e) == c.destination) more
+view_step c last e es items false true free more =
+    view_here c (destination_at c last (seen_of e)) e (is_request c (seen_of e)) es items
+    (destination_at c last (seen_of e) == c.destination) more
 view_step c last e es items false false true more = ap (λ (l : List Seen). seen_of e ∷ l) (more (destination_at c last (seen_of e)))
 view_step c last e es items false false false more = ap (λ (l : List Seen). seen_of e ∷ l) (more (destination_at c last (seen_of e)))
 
-destined_by : (c : Codes) (last : ℕ) (i : Seen) (items : List Seen) (theirs : Bool) → cond theirs (destined c last items) (destined c last (i ∷ items)) ≡ destined c last (cond theirs items (i ∷ items))
+destined_by : (c : Codes) (last : ℕ) (i : Seen) (items : List Seen) (theirs : Bool)
+    → cond theirs (destined c last items) (destined c last (i ∷ items)) ≡ destined c last (cond theirs items (i ∷ items))
 destined_by c last i items true = refl
 destined_by c last i items false = refl
 
-pub sided-view : (c : Codes) (last : ℕ) (es : List Entry) → items_of (sided c None last es) ≡ destined c last (view (mirrored c) (items_of es))
+pub sided-view : (c : Codes) (last : ℕ) (es : List Entry)
+    → items_of (sided c None last es) ≡ destined c last (view (mirrored c) (items_of es))
 sided-view c last [] = refl
 sided-view c last (e ∷ es) =
-    view_step c last e es (view (mirrored c) (items_of es)) (belongs (mirrored c) (turned (seen_of e))) (belongs c (seen_of e)) _ (λ n. sided-view c n es)
+    view_step c last e es (view (mirrored c) (items_of es)) (belongs (mirrored c) (turned (seen_of e))) (belongs c (seen_of e)) _
+    (λ n. sided-view c n es)
     ∙ destined_by c last (seen_of e) (view (mirrored c) (items_of es)) (belongs (mirrored c) (turned (seen_of e)))
 
 pub lined-turned : (es : List Entry) → items_of (map (on_line bus.B) es) ≡ all_turned (items_of es)
@@ -134,20 +155,31 @@ lined-same (e ∷ es) = ap (λ (l : List Entry). e ∷ l) (lined-same es)
 
 -- ---- the view of a direction with one destination
 
-here_here : (c : Codes) (d : ℕ) (e : Entry) (r : Bool) (es : List Entry) (items : List Seen) (h : Bool) → ((n : ℕ) → AreHere (lots c None n es) → items_of (sided c None n es) ≡ items)
-    → AreHere (cond h (cond false Renamed Kept) (Elsewhere d r) ∷ lots c None d es) → items_of (with_written (written c (cond h (cond false Renamed Kept) (Elsewhere d r)) e) (sided c None d es)) ≡ seen_of e ∷ items
+here_here : (c : Codes) (d : ℕ) (e : Entry) (r : Bool) (es : List Entry) (items : List Seen) (h : Bool)
+    → ((n : ℕ) → AreHere (lots c None n es) → items_of (sided c None n es) ≡ items)
+    → AreHere (cond h (cond false Renamed Kept) (Elsewhere d r) ∷ lots c None d es)
+    → items_of (with_written (written c (cond h (cond false Renamed Kept) (Elsewhere d r)) e) (sided c None d es)) ≡ seen_of e ∷ items
 here_here c d e r es items true more here = ap (λ (l : List Seen). seen_of e ∷ l) (more d here)
 here_here c d e r es items false more here = absurd here
 
-here_step : (c : Codes) (last : ℕ) (e : Entry) (es : List Entry) (items : List Seen) (theirs ours free : Bool) → ((n : ℕ) → AreHere (lots c None n es) → items_of (sided c None n es) ≡ items)
+here_step : (c : Codes) (last : ℕ) (e : Entry) (es : List Entry) (items : List Seen) (theirs ours free : Bool)
+    → ((n : ℕ) → AreHere (lots c None n es) → items_of (sided c None n es) ≡ items)
     → AreHere (lot_in c None last e (by_tests theirs ours free) ∷ lots c None (last_in c last e (by_tests theirs ours free)) es)
-    → items_of (with_written (written c (lot_in c None last e (by_tests theirs ours free)) e) (sided c None (last_in c last e (by_tests theirs ours free)) es)) ≡ cond theirs items (seen_of e ∷ items)
+    → items_of (with_written (written c (lot_in c None last e (by_tests theirs ours free)) e)
+    (sided c None (last_in c last e (by_tests theirs ours free)) es))
+    ≡ cond theirs items (seen_of e ∷ items)
 here_step c last e es items true ours free more here = more last here
-here_step c last e es items false true free more here = here_here c (destination_at c last (seen_of e)) e (is_request c (seen_of e)) es items (destination_at c last (seen_of e) == c.destination) more here
-here_step c last e es items false false true more here = ap (λ (l : List Seen). seen_of e ∷ l) (more (destination_at c last (seen_of e)) here)
-here_step c last e es items false false false more here = ap (λ (l : List Seen). seen_of e ∷ l) (more (destination_at c last (seen_of e)) here)
+here_step c last e es items false true free more here =
+    here_here c (destination_at c last (seen_of e)) e (is_request c (seen_of e)) es items
+    (destination_at c last (seen_of e) == c.destination) more here
+here_step c last e es items false false true more here =
+    ap (λ (l : List Seen). seen_of e ∷ l) (more (destination_at c last (seen_of e)) here)
+here_step c last e es items false false false more here =
+    ap (λ (l : List Seen). seen_of e ∷ l) (more (destination_at c last (seen_of e)) here)
 
-pub here-view : (c : Codes) (last : ℕ) (es : List Entry) → AreHere (lots c None last es) → items_of (sided c None last es) ≡ view (mirrored c) (items_of es)
+pub here-view : (c : Codes) (last : ℕ) (es : List Entry)
+    → AreHere (lots c None last es) → items_of (sided c None last es) ≡ view (mirrored c) (items_of es)
 here-view c last [] here = refl
 here-view c last (e ∷ es) here =
-    here_step c last e es (view (mirrored c) (items_of es)) (belongs (mirrored c) (turned (seen_of e))) (belongs c (seen_of e)) _ (λ n h. here-view c n es h) here
+    here_step c last e es (view (mirrored c) (items_of es)) (belongs (mirrored c) (turned (seen_of e))) (belongs c (seen_of e)) _
+    (λ n h. here-view c n es h) here

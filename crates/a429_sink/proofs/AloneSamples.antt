@@ -20,7 +20,25 @@ word_b w = record { bus = bus.B; word = w }
 
 abbrev sample : Contents
 sample = record {
-  codes = record { to_sink = 196; to_source = 197; destination = 65; first_ldu = 1; final_bit = 25; full = 0; partial = 1; protocol = 4; sot = 6; eot = 7; rts = 1; cts = 2; ack = 5; nak = 6; ignored_types = 5 ∷ []; ignored_codes = 3 ∷ []; partial_codes = 1 ∷ 2 ∷ 3 ∷ 4 ∷ [] };
+  codes = record {
+    to_sink = 196;
+    to_source = 197;
+    destination = 65;
+    first_ldu = 1;
+    final_bit = 25;
+    full = 0;
+    partial = 1;
+    protocol = 4;
+    sot = 6;
+    eot = 7;
+    rts = 1;
+    cts = 2;
+    ack = 5;
+    nak = 6;
+    ignored_types = 5 ∷ [];
+    ignored_codes = 3 ∷ [];
+    partial_codes = 1 ∷ 2 ∷ 3 ∷ 4 ∷ [];
+  };
   check = record { poly = 0x1021; init = 0xffff; xor = 0xffff; low_first = true; compare = true };
   labels = [];
 }
@@ -69,7 +87,8 @@ unfolding sum_below
 impossible = refl
 
 -- a damaged data word, and the block again
-pub damaged_word : files_of sample (rts ∷ (cts ∷ (sot ∷ (word_a 0x92004123 ∷ (eot ∷ (word_b 0x460000a3 ∷ []))))) ++ unit_of sot eot ack) ≡ file_of 1 (0x41 ∷ []) ∷ []
+pub damaged_word : files_of sample (rts ∷ (cts ∷ (sot ∷ (word_a 0x92004123 ∷ (eot ∷ (word_b 0x460000a3 ∷ []))))) ++ unit_of sot eot ack)
+    ≡ file_of 1 (0x41 ∷ []) ∷ []
 unfolding sum_below
 damaged_word = refl
 
@@ -138,12 +157,14 @@ abbrev AreGlimpsed : List Seen → Glimpse → Type 0
 AreGlimpsed [] g = Unit {0}
 AreGlimpsed (i ∷ items) g = GlimpseAllows sample g i × AreGlimpsed items (glimpses sample i g)
 
-none_before : (items more : List Seen) (g : Glimpse) → AreGlimpsed items g → (m : ℕ) → m < length items → (GlimpseAllowsNext sample (glimpsed sample (take m (items ++ more)) g) (slice_get (items ++ more) m) → ⊥) → ⊥
+none_before : (items more : List Seen) (g : Glimpse) → AreGlimpsed items g → (m : ℕ) → m < length items
+    → (GlimpseAllowsNext sample (glimpsed sample (take m (items ++ more)) g) (slice_get (items ++ more) m) → ⊥) → ⊥
 none_before [] more g h m l refused = absurd (omega arith)
 none_before (i ∷ items) more g h zero l refused = refused h.0
 none_before (i ∷ items) more g h (suc m) l refused = none_before items more (glimpses sample i g) h.1 m (omega arith) refused
 
-nowhere : (items : List Seen) (g : Glimpse) → AreGlimpsed items g → (m : ℕ) → (GlimpseAllowsNext sample (glimpsed sample (take m items) g) (slice_get items m) → ⊥) → ⊥
+nowhere : (items : List Seen) (g : Glimpse)
+    → AreGlimpsed items g → (m : ℕ) → (GlimpseAllowsNext sample (glimpsed sample (take m items) g) (slice_get items m) → ⊥) → ⊥
 nowhere [] g h zero refused = refused tt
 nowhere [] g h (suc m) refused = refused tt
 nowhere (i ∷ items) g h zero refused = refused h.0
@@ -151,11 +172,53 @@ nowhere (i ∷ items) g h (suc m) refused = nowhere items (glimpses sample i g) 
 
 load_allowed : AreGlimpsed load glimpse_at_first
 unfolding sum_below
-load_allowed = (inr tt, (inr refl, (inr (tt, refl), (inr (tt, lit≤ tt), (inr tt, (inr (refl, refl), (inr tt, (inr refl, (inr (tt, refl), (inr (tt, lit≤ tt), (inr tt, (inr (refl, refl), tt))))))))))))
+load_allowed = (
+  inr tt,
+  (
+    inr refl,
+    (
+      inr (tt, refl),
+      (
+        inr (tt, lit≤ tt),
+        (inr tt, (inr (refl, refl), (inr tt, (inr refl, (inr (tt, refl), (inr (tt, lit≤ tt), (inr tt, (inr (refl, refl), tt)))))))),
+      ),
+    ),
+  ),
+)
 
 allowed_again : AreGlimpsed (take 17 (load ++ load)) glimpse_at_first
 unfolding sum_below
-allowed_again = (inr tt, (inr refl, (inr (tt, refl), (inr (tt, lit≤ tt), (inr tt, (inr (refl, refl), (inr tt, (inr refl, (inr (tt, refl), (inr (tt, lit≤ tt), (inr tt, (inr (refl, refl), (inr tt, (inr refl, (inr (tt, refl), (inr (tt, lit≤ tt), (inr tt, tt)))))))))))))))))
+allowed_again = (
+  inr tt,
+  (
+    inr refl,
+    (
+      inr (tt, refl),
+      (
+        inr (tt, lit≤ tt),
+        (
+          inr tt,
+          (
+            inr (refl, refl),
+            (
+              inr tt,
+              (
+                inr refl,
+                (
+                  inr (tt, refl),
+                  (
+                    inr (tt, lit≤ tt),
+                    (inr tt, (inr (refl, refl), (inr tt, (inr refl, (inr (tt, refl), (inr (tt, lit≤ tt), (inr tt, tt))))))),
+                  ),
+                ),
+              ),
+            ),
+          ),
+        ),
+      ),
+    ),
+  ),
+)
 
 begins_at : MayEnd sample (load ++ load) 12
 unfolding sum_below
@@ -180,14 +243,17 @@ no_later (suc (suc (suc (suc (suc (suc (suc (suc (suc (suc (suc (suc (suc zero))
 no_later (suc (suc (suc (suc (suc (suc (suc (suc (suc (suc (suc (suc (suc (suc zero)))))))))))))) after until place = place.1.0
 no_later (suc (suc (suc (suc (suc (suc (suc (suc (suc (suc (suc (suc (suc (suc (suc zero))))))))))))))) after until place = place.1.0
 no_later (suc (suc (suc (suc (suc (suc (suc (suc (suc (suc (suc (suc (suc (suc (suc (suc zero)))))))))))))))) after until place = place.1.0
-no_later (suc (suc (suc (suc (suc (suc (suc (suc (suc (suc (suc (suc (suc (suc (suc (suc (suc zero))))))))))))))))) after until place = place.1.0
-no_later (suc (suc (suc (suc (suc (suc (suc (suc (suc (suc (suc (suc (suc (suc (suc (suc (suc (suc m)))))))))))))))))) after until place = absurd (omega arith)
+no_later (suc (suc (suc (suc (suc (suc (suc (suc (suc (suc (suc (suc (suc (suc (suc (suc (suc zero))))))))))))))))) after until place =
+    place.1.0
+no_later (suc (suc (suc (suc (suc (suc (suc (suc (suc (suc (suc (suc (suc (suc (suc (suc (suc (suc m)))))))))))))))))) after until place =
+    absurd (omega arith)
 
 -- the second load begins the second piece
 pub again_pieces : ArePieces sample (load ++ load) (load ∷ (load ∷ []))
 again_pieces = (
   load,
   refl,
-  Before 17 (again_stops, λ m l. none_before (take 17 (load ++ load)) (drop 17 (load ++ load)) glimpse_at_first allowed_again m l) begins_at (lit≤ tt) no_later,
+  Before 17 (again_stops, λ m l. none_before (take 17 (load ++ load)) (drop 17 (load ++ load)) glimpse_at_first allowed_again m l) begins_at
+      (lit≤ tt) no_later,
   (refl, inl (nowhere load glimpse_at_first load_allowed)),
 )

@@ -30,7 +30,8 @@ pub items_length : (es : List Entry) → length (items_of es) ≡ length es
 items_length [] = refl
 items_length (x ∷ es) = ap suc (items_length es)
 
-pub traced_more : (p : Contents) (es : List Entry) (e : Entry) (t : LoneTrace) → IsLoneTrace p (items_of es ++ seen_of e ∷ []) t → IsLoneTrace p (items_of (es ++ e ∷ [])) t
+pub traced_more : (p : Contents) (es : List Entry) (e : Entry) (t : LoneTrace)
+    → IsLoneTrace p (items_of es ++ seen_of e ∷ []) t → IsLoneTrace p (items_of (es ++ e ∷ [])) t
 traced_more p es e t = subst (λ (is : List Seen). IsLoneTrace p is t) (sym (items_push es e))
 
 -- ---- what has come of the recording
@@ -39,7 +40,8 @@ pub began : (first left : Option Recording) (es : List Entry) → Came first es 
 began None left es h = tt
 began (Some r) left es (rest, is, all) = (rest, all)
 
-pub ran_out : (first left : Option Recording) (es : List Entry) → Came first es left → IfSome first (λ r. (rest : Recording) × (r ≡ with_entries es rest) × Stops read.OutOfMemory rest)
+pub ran_out : (first left : Option Recording) (es : List Entry)
+    → Came first es left → IfSome first (λ r. (rest : Recording) × (r ≡ with_entries es rest) × Stops read.OutOfMemory rest)
 ran_out None left es h = tt
 ran_out (Some r) left es (rest, is, all) = (rest, all, tt)
 
@@ -58,16 +60,20 @@ says_yes p is t trace seen = record {
 -- ---- a no
 
 -- words of which the last is refused are not allowed, whatever comes after it
-not_allowed : (p : Contents) (items more : List Seen) (i : Seen) (k : Sink) → AreSinkAllowed p k ((items ++ i ∷ []) ++ more) → SinkAllows p (sink_after p items k) i
+not_allowed : (p : Contents) (items more : List Seen) (i : Seen) (k : Sink)
+    → AreSinkAllowed p k ((items ++ i ∷ []) ++ more) → SinkAllows p (sink_after p items k) i
 not_allowed p [] more i k h = h.0
 not_allowed p (x ∷ items) more i k h = not_allowed p items more i (sink_sees p x.bus x.word k) h.1
 
-pub says_no : (p : Contents) → IsProfile p → (t : Taken) (es : List Entry) (e : Entry) (r : Refusal) → BeginsWith t.recording (es ++ e ∷ []) → t.given ≡ length es + 1
+pub says_no : (p : Contents) → IsProfile p → (t : Taken) (es : List Entry) (e : Entry) (r : Refusal) → BeginsWith t.recording (es ++ e ∷ [])
+    → t.given ≡ length es + 1
     → IsRefusal p (items_of es ++ seen_of e ∷ []) r × (r.entry ≡ length (items_of es)) → SinkNo p t r
 says_no p is t es e r begins came h =
     let n : r.entry ≡ length es = h.1 ∙ items_length es in
-    let before : take r.entry (items_of es ++ seen_of e ∷ []) ≡ items_of es = ap (λ (m : ℕ). take m (items_of es ++ seen_of e ∷ [])) h.1 ∙ take-append_seam (items_of es) (seen_of e ∷ []) in
-    let refused : IsSinkRefused p (items_of es ++ seen_of e ∷ []) (length (items_of es)) = subst (IsSinkRefused p (items_of es ++ seen_of e ∷ [])) h.1 h.0.refused in
+    let before : take r.entry (items_of es ++ seen_of e ∷ []) ≡ items_of es =
+    ap (λ (m : ℕ). take m (items_of es ++ seen_of e ∷ [])) h.1 ∙ take-append_seam (items_of es) (seen_of e ∷ []) in
+    let refused : IsSinkRefused p (items_of es ++ seen_of e ∷ []) (length (items_of es)) =
+    subst (IsSinkRefused p (items_of es ++ seen_of e ∷ [])) h.1 h.0.refused in
     let never = last_refused p (items_of es) (seen_of e) refused in
     record {
       entries = es;
@@ -76,6 +82,9 @@ says_no p is t es e r begins came h =
       came = came;
       number = n;
       keeps = allowed_keeps p (is_read p is) (items_of es) sink_at_first (subst (AreSinkAllowed p sink_at_first) before h.0.before);
-      ends = λ more keeps. never (not_allowed p (items_of es) more (seen_of e) sink_at_first (keeps_allowed p (is_read p is) _ sink_at_first (subst (λ (is : List Seen). SinkKeeps p (is ++ more)) (items_push es e) keeps)));
+      ends =
+          λ more keeps.
+          never (not_allowed p (items_of es) more (seen_of e) sink_at_first
+          (keeps_allowed p (is_read p is) _ sink_at_first (subst (λ (is : List Seen). SinkKeeps p (is ++ more)) (items_push es e) keeps)));
       says = subst (λ (is : List Seen). IsRefusal p is r) (sym (items_push es e)) h.0;
     }

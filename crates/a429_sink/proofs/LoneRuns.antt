@@ -62,21 +62,25 @@ pushed words w = length-append words (w ∷ [])
 part_twice : (count w : ℕ) (phase : SinkPhase) → SameCapped count (at_part w) phase
 part_twice count w (InBlock b) = by (nat_lt count (length b.words + 2)) refl
   where
-    by : (t : Bool) → nat_lt count (length b.words + 2) ≡ t → capped_in count (at_part w (cond t Granted (InBlock b))) ≡ capped_in count (at_part w (InBlock b))
+    by : (t : Bool) → nat_lt count (length b.words + 2) ≡ t
+        → capped_in count (at_part w (cond t Granted (InBlock b))) ≡ capped_in count (at_part w (InBlock b))
     by false e = refl
     by true e =
         let more : nat_lt count (length b.words + 1 + 2) ≡ true = grind (arith, nat_tests) in
-        sym (ap (λ (n : ℕ). cond (nat_lt count (n + 2)) Granted (at_part w (InBlock b))) (pushed b.words w) ∙ ap (λ (t : Bool). cond t Granted (at_part w (InBlock b))) more)
+        sym (ap (λ (n : ℕ). cond (nat_lt count (n + 2)) Granted (at_part w (InBlock b))) (pushed b.words w)
+        ∙ ap (λ (t : Bool). cond t Granted (at_part w (InBlock b))) more)
 part_twice count w Quiet = refl
 part_twice count w OwesClear = refl
 part_twice count w Granted = refl
 part_twice count w (OwesAck b flags) = refl
 part_twice count w OwesNak = refl
 
-end_twice : (p : Contents) (last : Option Number) (count : ℕ) (e : EndWord) (phase : SinkPhase) → SameCapped count (at_end p last count e) phase
+end_twice : (p : Contents) (last : Option Number) (count : ℕ) (e : EndWord) (phase : SinkPhase)
+    → SameCapped count (at_end p last count e) phase
 end_twice p last count e (InBlock b) = by (nat_lt count (length b.words + 2)) refl
   where
-    by : (t : Bool) → nat_lt count (length b.words + 2) ≡ t → capped_in count (at_end p last count e (cond t Granted (InBlock b))) ≡ capped_in count (at_end p last count e (InBlock b))
+    by : (t : Bool) → nat_lt count (length b.words + 2) ≡ t
+        → capped_in count (at_end p last count e (cond t Granted (InBlock b))) ≡ capped_in count (at_end p last count e (InBlock b))
     by false e = refl
     by true e =
         let other : (length b.words + 2 == count) ≡ false = grind (arith, nat_tests) in
@@ -88,24 +92,47 @@ end_twice p last count e (OwesAck b flags) = refl
 end_twice p last count e OwesNak = refl
 
 -- an acknowledgement accepts the same
-accepted : (c : Codes) (b : Block) (flags : ℕ) (again same_file final : Bool) (k : Sink) → without_files (in_phase Quiet (cond again (without_files k) (record (without_files k) { last = Some (record { number = number_of b; final = final }); received = put b.file (bytes_in c b.words) final (cond same_file (without_files k).received (emptied (without_files k).received)) })))
-    ≡ without_files (in_phase Quiet (cond again k (record k { last = Some (record { number = number_of b; final = final }); received = put b.file (bytes_in c b.words) final (cond same_file k.received (emptied k.received)) })))
+accepted : (c : Codes) (b : Block) (flags : ℕ) (again same_file final : Bool) (k : Sink)
+    → without_files (in_phase Quiet (cond again (without_files k) (record (without_files k) {
+      last = Some (record { number = number_of b; final = final });
+      received = put b.file (bytes_in c b.words) final (cond same_file (without_files k).received (emptied (without_files k).received));
+    })))
+    ≡ without_files (in_phase Quiet (cond again k (record k {
+      last = Some (record { number = number_of b; final = final });
+      received = put b.file (bytes_in c b.words) final (cond same_file k.received (emptied k.received));
+    })))
 accepted c b flags true same_file final k = refl
 accepted c b flags false true true k = refl
 accepted c b flags false true false k = refl
 accepted c b flags false false true k = refl
 accepted c b flags false false false k = refl
 
-accepts_twice : (c : Codes) (phase : SinkPhase) (k : Sink) → without_files (in_phase Quiet (accepts_owed c (capped_in k.count phase) (without_files (capped k)))) ≡ without_files (in_phase Quiet (accepts_owed c phase k))
-accepts_twice c (OwesAck b flags) k = out_of_phase (is_same k.last (number_of b)) ∙ accepted c b flags (is_same k.last (number_of b)) (is_same_file k.last b.file) (is_final c flags) k
+accepts_twice : (c : Codes) (phase : SinkPhase) (k : Sink)
+    → without_files (in_phase Quiet (accepts_owed c (capped_in k.count phase) (without_files (capped k))))
+    ≡ without_files (in_phase Quiet (accepts_owed c phase k))
+accepts_twice c (OwesAck b flags) k = out_of_phase (is_same k.last (number_of b))
+    ∙ accepted c b flags (is_same k.last (number_of b)) (is_same_file k.last b.file) (is_final c flags) k
   where
-    out_of_phase : (again : Bool) → without_files (in_phase Quiet (cond again (without_files (capped k)) (record (without_files (capped k)) { last = Some (record { number = number_of b; final = is_final c flags }); received = put b.file (bytes_in c b.words) (is_final c flags) (cond (is_same_file k.last b.file) (without_files k).received (emptied (without_files k).received)) })))
-        ≡ without_files (in_phase Quiet (cond again (without_files k) (record (without_files k) { last = Some (record { number = number_of b; final = is_final c flags }); received = put b.file (bytes_in c b.words) (is_final c flags) (cond (is_same_file k.last b.file) (without_files k).received (emptied (without_files k).received)) })))
+    out_of_phase : (again : Bool)
+        → without_files (in_phase Quiet (cond again (without_files (capped k)) (record (without_files (capped k)) {
+          last = Some (record { number = number_of b; final = is_final c flags });
+          received =
+              put b.file (bytes_in c b.words) (is_final c flags)
+              (cond (is_same_file k.last b.file) (without_files k).received (emptied (without_files k).received));
+        })))
+        ≡ without_files (in_phase Quiet (cond again (without_files k) (record (without_files k) {
+          last = Some (record { number = number_of b; final = is_final c flags });
+          received =
+              put b.file (bytes_in c b.words) (is_final c flags)
+              (cond (is_same_file k.last b.file) (without_files k).received (emptied (without_files k).received));
+        })))
     out_of_phase true = refl
     out_of_phase false = refl
 accepts_twice c (InBlock b) k = by (nat_lt k.count (length b.words + 2))
   where
-    by : (t : Bool) → without_files (in_phase Quiet (accepts_owed c (cond t Granted (InBlock b)) (without_files (capped k)))) ≡ without_files (in_phase Quiet k)
+    by : (t : Bool)
+        → without_files (in_phase Quiet (accepts_owed c (cond t Granted (InBlock b)) (without_files (capped k))))
+        ≡ without_files (in_phase Quiet k)
     by true = refl
     by false = refl
 accepts_twice c Quiet k = refl
@@ -117,7 +144,8 @@ in_capped : (k : Sink) (a b : SinkPhase) → a ≡ b → without_files (in_phase
 in_capped k a b e = ap (λ (q : SinkPhase). without_files (in_phase q k)) e
 
 -- what is kept of a sink takes a word as the sink does
-sees_kept : (p : Contents) (b : Bus) (w : ℕ) (x : Option Form) (k : Sink) → keeps_form p b w x (without_files (capped k)) ≡ keeps_form p b w x k
+sees_kept : (p : Contents) (b : Bus) (w : ℕ) (x : Option Form) (k : Sink)
+    → keeps_form p b w x (without_files (capped k)) ≡ keeps_form p b w x k
 sees_kept p bus.A w (Some (form.Rts n)) k = refl
 sees_kept p bus.A w (Some (form.Sot g f l)) k = in_capped k _ _ (start_twice k.count (empty_block g f l) k.phase)
 sees_kept p bus.A w (Some (form.Part s)) k = in_capped k _ _ (part_twice k.count w k.phase)
@@ -135,10 +163,12 @@ sees_kept p bus.B w (Some (form.Part s)) k = in_capped k _ _ (twice k.count k.ph
 sees_kept p bus.B w (Some (form.Eot f c)) k = in_capped k _ _ (twice k.count k.phase)
 sees_kept p bus.B w None k = in_capped k _ _ (twice k.count k.phase)
 
-kept_from : (p : Contents) (items : List Seen) (k : Sink) → kept p items (without_files (capped k)) ≡ without_files (capped (sink_after p items k))
+kept_from : (p : Contents) (items : List Seen) (k : Sink)
+    → kept p items (without_files (capped k)) ≡ without_files (capped (sink_after p items k))
 kept_from p [] k = refl
 kept_from p (i ∷ items) k =
-    let one = sees_kept p i.bus i.word (form_of p.codes i.bus i.word) k ∙ ap (λ (s : Sink). without_files (capped s)) (sym (sees_on_as p i.bus i.word k)) in
+    let one = sees_kept p i.bus i.word (form_of p.codes i.bus i.word) k
+    ∙ ap (λ (s : Sink). without_files (capped s)) (sym (sees_on_as p i.bus i.word k)) in
     ap (kept p items) one ∙ kept_from p items (sink_sees p i.bus i.word k)
 
 pub kept_sink : (p : Contents) (items : List Seen) → kept p items sink_at_first ≡ without_files (capped (sink_after p items sink_at_first))
@@ -165,8 +195,11 @@ allowed_kept p k bus.B w =
     let may = may_capped k.count k.phase (form_of p.codes bus.B w) in
     (λ h. elim h [ inl f ↦ inl f | inr a ↦ inr (may.0 a) ], λ h. elim h [ inl f ↦ inl f | inr a ↦ inr (may.1 a) ])
 
-pub kept_allows : (p : Contents) (items : List Seen) (i : Seen) → SinkAllows p (kept p items sink_at_first) i ↔ SinkAllows p (sink_after p items sink_at_first) i
-kept_allows p items i = subst (λ (k : Sink). SinkAllows p k i ↔ SinkAllows p (sink_after p items sink_at_first) i) (sym (kept_sink p items)) (allowed_kept p (sink_after p items sink_at_first) i.bus i.word)
+pub kept_allows : (p : Contents) (items : List Seen) (i : Seen)
+    → SinkAllows p (kept p items sink_at_first) i ↔ SinkAllows p (sink_after p items sink_at_first) i
+kept_allows p items i =
+    subst (λ (k : Sink). SinkAllows p k i ↔ SinkAllows p (sink_after p items sink_at_first) i) (sym (kept_sink p items))
+    (allowed_kept p (sink_after p items sink_at_first) i.bus i.word)
 
 -- ---- the files that cross
 
@@ -178,22 +211,27 @@ owes_kept count Granted x h = refl
 owes_kept count (OwesAck b flags) x h = refl
 owes_kept count OwesNak x h = refl
 
-kept_crosses : (p : Contents) (items : List Seen) (w : ℕ) (x : Form) → form_of p.codes bus.B w ≡ Some x → MayAnswer (kept p items sink_at_first).count (kept p items sink_at_first).phase x
-    → sizes_of (files_of p (items ++ record { bus = bus.B; word = w } ∷ [])) ≡ sizes_of (files_of p items) ++ crossings_of (does p bus.B 0 x (kept p items sink_at_first))
+kept_crosses : (p : Contents) (items : List Seen) (w : ℕ) (x : Form)
+    → form_of p.codes bus.B w ≡ Some x → MayAnswer (kept p items sink_at_first).count (kept p items sink_at_first).phase x
+    → sizes_of (files_of p (items ++ record { bus = bus.B; word = w } ∷ [])) ≡ sizes_of (files_of p items)
+    ++ crossings_of (does p bus.B 0 x (kept p items sink_at_first))
 kept_crosses p items w x e a =
     let s = sink_after p items sink_at_first in
-    let may : MayAnswer s.count s.phase x = (may_capped s.count s.phase (Some x)).0 (subst (λ (k : Sink). MayAnswer k.count k.phase x) (kept_sink p items) a) in
+    let may : MayAnswer s.count s.phase x =
+    (may_capped s.count s.phase (Some x)).0 (subst (λ (k : Sink). MayAnswer k.count k.phase x) (kept_sink p items) a) in
     let same : kept p items sink_at_first ≡ without_files s = kept_sink p items ∙ in_capped s _ _ (owes_kept s.count s.phase x may) in
     let out = ap (λ (i : Implied). i.sink) (implied_sink p items) in
     let seen = subst (λ (k : Sink). MayAnswer k.count k.phase x) (sym (observed_sink p items)) may in
     file_crosses p items (record { bus = bus.B; word = w }) x e seen
     ∙ ap (λ (k : Sink). sizes_of (files_of p items) ++ crossings_of (does p bus.B 0 x k)) (out ∙ sym same)
 
-kept_stays : (p : Contents) (items : List Seen) (i : Seen) → (i.bus ≡ bus.A) ⊎ (form_of p.codes i.bus i.word ≡ None) → files_of p (items ++ i ∷ []) ≡ files_of p items
+kept_stays : (p : Contents) (items : List Seen) (i : Seen)
+    → (i.bus ≡ bus.A) ⊎ (form_of p.codes i.bus i.word ≡ None) → files_of p (items ++ i ∷ []) ≡ files_of p items
 kept_stays p items i (inr e) = files_stay_without p items i e
 kept_stays p items i (inl e) =
     let s = sink_after p items sink_at_first in
-    ap (λ (k : Sink). k.received.files) (after_push p items i sink_at_first) ∙ ap (λ (b : Bus). (sink_sees p b i.word s).received.files) e ∙ by (form_of p.codes bus.A i.word) s
+    ap (λ (k : Sink). k.received.files) (after_push p items i sink_at_first) ∙ ap (λ (b : Bus). (sink_sees p b i.word s).received.files) e
+    ∙ by (form_of p.codes bus.A i.word) s
   where
     by : (x : Option Form) (k : Sink) → (sink_sees_form p bus.A i.word x k).received.files ≡ k.received.files
     by None k = refl
@@ -220,19 +258,29 @@ as_listed (doing.InBlock file ldu taken asked) = refl
 as_listed (doing.OwesAck file ldu) = refl
 as_listed (doing.OwesNak why) = refl
 
-pub all_crosses : (p : Contents) (items : List Seen) (i : Seen) → SinkAllows p (kept p items sink_at_first) i → sizes_of (files_of p (items ++ i ∷ [])) ≡ sizes_of (files_of p items) ++ listed (crosses p i (kept p items sink_at_first))
+pub all_crosses : (p : Contents) (items : List Seen) (i : Seen) → SinkAllows p (kept p items sink_at_first) i
+    → sizes_of (files_of p (items ++ i ∷ [])) ≡ sizes_of (files_of p items) ++ listed (crosses p i (kept p items sink_at_first))
 all_crosses p items i = by i.bus i.word (form_of p.codes i.bus i.word) refl
   where
     k : Sink
     k = kept p items sink_at_first
 
-    none : (b : Bus) (w : ℕ) → (b ≡ bus.A) ⊎ (form_of p.codes b w ≡ None) → sizes_of (files_of p (items ++ record { bus = b; word = w } ∷ [])) ≡ sizes_of (files_of p items) ++ []
+    none : (b : Bus) (w : ℕ) → (b ≡ bus.A) ⊎ (form_of p.codes b w ≡ None)
+        → sizes_of (files_of p (items ++ record { bus = b; word = w } ∷ [])) ≡ sizes_of (files_of p items) ++ []
     none b w h = ap sizes_of (kept_stays p items (record { bus = b; word = w }) h) ∙ sym (append-nil (sizes_of (files_of p items)))
 
-    by : (b : Bus) (w : ℕ) (x : Option Form) → form_of p.codes b w ≡ x → SinkAllowsOn p k b w → sizes_of (files_of p (items ++ record { bus = b; word = w } ∷ [])) ≡ sizes_of (files_of p items) ++ listed (crosses_form p b (form_of p.codes b w) k)
+    by : (b : Bus) (w : ℕ) (x : Option Form) → form_of p.codes b w ≡ x → SinkAllowsOn p k b w
+        → sizes_of (files_of p (items ++ record { bus = b; word = w } ∷ [])) ≡ sizes_of (files_of p items)
+        ++ listed (crosses_form p b (form_of p.codes b w) k)
     by bus.A w x e a = none bus.A w (inl refl)
-    by bus.B w None e a = subst (λ (q : Option Form). sizes_of (files_of p (items ++ record { bus = bus.B; word = w } ∷ [])) ≡ sizes_of (files_of p items) ++ listed (crosses_form p bus.B q k)) (sym e) (none bus.B w (inr e))
+    by bus.B w None e a =
+        subst (λ (q : Option Form). sizes_of (files_of p (items ++ record { bus = bus.B; word = w } ∷ [])) ≡ sizes_of (files_of p items)
+        ++ listed (crosses_form p bus.B q k))
+        (sym e) (none bus.B w (inr e))
     by bus.B w (Some x) e (inl f) = absurd (cc (sym e ∙ free_formless p bus.B w f))
     by bus.B w (Some x) e (inr a) =
-        subst (λ (q : Option Form). sizes_of (files_of p (items ++ record { bus = bus.B; word = w } ∷ [])) ≡ sizes_of (files_of p items) ++ listed (crosses_form p bus.B q k)) (sym e)
-        (kept_crosses p items w x e (subst (MayAnswerForm k.count k.phase) e a) ∙ ap (λ (c : List Crossing). sizes_of (files_of p items) ++ c) (as_listed (does p bus.B 0 x k)))
+        subst (λ (q : Option Form). sizes_of (files_of p (items ++ record { bus = bus.B; word = w } ∷ [])) ≡ sizes_of (files_of p items)
+        ++ listed (crosses_form p bus.B q k))
+        (sym e)
+        (kept_crosses p items w x e (subst (MayAnswerForm k.count k.phase) e a)
+        ∙ ap (λ (c : List Crossing). sizes_of (files_of p items) ++ c) (as_listed (does p bus.B 0 x k)))

@@ -28,14 +28,19 @@ kept_push : (p : Contents) (items : List Seen) (i : Seen) (k : Sink) → kept p 
 kept_push p [] i k = refl
 kept_push p (x ∷ items) i k = kept_push p items i (keeps p x k)
 
-pub asked_after : (p : Contents) (items : List Seen) (i : Seen) (old : LoneTrace) (r : Request) (last : Option Request) → IsLoneTrace p items old
-    → r.entry ≡ old.entries → r.owed ≡ owed_by old.sink → IsLater (IsRequest p (Some i)) old.request r last → IsLastAsked p (items ++ i ∷ []) last
+pub asked_after : (p : Contents) (items : List Seen) (i : Seen) (old : LoneTrace) (r : Request) (last : Option Request)
+    → IsLoneTrace p items old
+    → r.entry ≡ old.entries → r.owed ≡ owed_by old.sink → IsLater (IsRequest p (Some i)) old.request r last
+    → IsLastAsked p (items ++ i ∷ []) last
 asked_after p items i old r last t entry owed (inl (asks, e)) =
-    subst (IsLastAsked p (items ++ i ∷ [])) (sym e) (asked_now p items i r asks (entry ∙ t.entries) (owed ∙ ap owed_by t.sink ∙ owed_kept p items))
-asked_after p items i old r last t entry owed (inr (never, e)) = subst (IsLastAsked p (items ++ i ∷ [])) (sym e) (asked_more p items i old.request never t.request)
+    subst (IsLastAsked p (items ++ i ∷ [])) (sym e)
+    (asked_now p items i r asks (entry ∙ t.entries) (owed ∙ ap owed_by t.sink ∙ owed_kept p items))
+asked_after p items i old r last t entry owed (inr (never, e)) =
+    subst (IsLastAsked p (items ++ i ∷ [])) (sym e) (asked_more p items i old.request never t.request)
 
 pub trace_more : (p : Contents) (items : List Seen) (i : Seen) (old new : LoneTrace) → IsLoneTrace p items old → SinkAllows p old.sink i
-    → new.entries ≡ old.entries + 1 → new.sink ≡ keeps p i old.sink → new.files.items ≡ old.files.items ++ listed (crosses p i old.sink) → IsLastAsked p (items ++ i ∷ []) new.request → IsLoneTrace p (items ++ i ∷ []) new
+    → new.entries ≡ old.entries + 1 → new.sink ≡ keeps p i old.sink → new.files.items ≡ old.files.items ++ listed (crosses p i old.sink)
+    → IsLastAsked p (items ++ i ∷ []) new.request → IsLoneTrace p (items ++ i ∷ []) new
 trace_more p items i old new t allowed entries sink files request =
     let may : SinkAllows p (kept p items sink_at_first) i = subst (λ (k : Sink). SinkAllows p k i) t.sink allowed in
     let sum = length-append items (i ∷ []) in
@@ -44,18 +49,24 @@ trace_more p items i old new t allowed entries sink files request =
       entries = omega arith;
       allowed = allowed_push p items i sink_at_first t.allowed ((kept_allows p items i).0 may);
       sink = sink ∙ ap (keeps p i) t.sink ∙ sym (kept_push p items i sink_at_first);
-      files = files ∙ ap (λ (l : List Crossing). l ++ listed (crosses p i old.sink)) t.files ∙ ap (λ (k : Sink). sizes_of (files_of p items) ++ listed (crosses p i k)) t.sink ∙ sym (all_crosses p items i may);
+      files = files ∙ ap (λ (l : List Crossing). l ++ listed (crosses p i old.sink)) t.files
+          ∙ ap (λ (k : Sink). sizes_of (files_of p items) ++ listed (crosses p i k)) t.sink ∙ sym (all_crosses p items i may);
       request = request;
     }
 
-pub trace_stops : (p : Contents) (items : List Seen) (i : Seen) (t : LoneTrace) (r : Refusal) → IsLoneTrace p items t → (SinkAllows p t.sink i → ⊥) → r.entry ≡ t.entries → WasOwed t.request (form_of p.codes i.bus i.word) r.owed_before → r.owed ≡ owed_by t.sink
+pub trace_stops : (p : Contents) (items : List Seen) (i : Seen) (t : LoneTrace) (r : Refusal)
+    → IsLoneTrace p items t → (SinkAllows p t.sink i → ⊥) → r.entry ≡ t.entries
+    → WasOwed t.request (form_of p.codes i.bus i.word) r.owed_before → r.owed ≡ owed_by t.sink
     → IsRefusal p (items ++ i ∷ []) r × (r.entry ≡ length items)
 trace_stops p items i t r is refused entry was owed =
-    let no : SinkAllows p (sink_after p items sink_at_first) i → ⊥ = λ a. refused (subst (λ (k : Sink). SinkAllows p k i) (sym is.sink) ((kept_allows p items i).1 a)) in
+    let no : SinkAllows p (sink_after p items sink_at_first) i → ⊥ =
+    λ a. refused (subst (λ (k : Sink). SinkAllows p k i) (sym is.sink) ((kept_allows p items i).1 a)) in
     let n : r.entry ≡ length items = entry ∙ is.entries in
     let here = sym (take-append_seam items (i ∷ [])) in (
       record {
-        before = subst (λ (m : ℕ). AreSinkAllowed p sink_at_first (take m (items ++ i ∷ []))) (sym n) (subst (AreSinkAllowed p sink_at_first) here is.allowed);
+        before =
+            subst (λ (m : ℕ). AreSinkAllowed p sink_at_first (take m (items ++ i ∷ []))) (sym n)
+            (subst (AreSinkAllowed p sink_at_first) here is.allowed);
         refused = rw n (refused_last p items i no);
         owed_before = rw n (owed_before_any p items i t.request r.owed_before no is.request was);
         owed = rw n (owed ∙ ap owed_by is.sink ∙ owed_kept p items ∙ ap (λ (l : List Seen). owed_by (sink_after p l sink_at_first)) here);

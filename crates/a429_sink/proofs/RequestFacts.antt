@@ -47,7 +47,8 @@ on_asks bus.B x h = absurd h
 
 -- ---- what words say of a request before them
 
-by_word : (c : Codes) (x : Option Form) (s : Start) (after : List Seen) → SaysStart c after s → (next : List Seen → List Seen) → ((rest : List Seen) → next_start c (next rest) ≡ start_by x (next_start c rest))
+by_word : (c : Codes) (x : Option Form) (s : Start) (after : List Seen) → SaysStart c after s → (next : List Seen → List Seen)
+    → ((rest : List Seen) → next_start c (next rest) ≡ start_by x (next_start c rest))
     → (more : List Seen) → ((rest : List Seen) → more ++ rest ≡ after ++ next rest) → SaysStart c more (start_after c x s)
 by_word c x start.OfFile after h next first more is = off x
   where
@@ -79,7 +80,8 @@ by_word c x start.Other after h next first more is = off x
     off (Some (form.Nak n)) = same
 by_word c x start.Open after h next first more is = off x (λ rest. ap (next_start c) (is rest) ∙ h (next rest) ∙ first rest)
   where
-    off : (x : Option Form) → ((rest : List Seen) → next_start c (more ++ rest) ≡ start_by x (next_start c rest)) → SaysStart c more (start_after c x start.Open)
+    off : (x : Option Form) → ((rest : List Seen) → next_start c (more ++ rest) ≡ start_by x (next_start c rest))
+        → SaysStart c more (start_after c x start.Open)
     off None e = e
     off (Some (form.Part s)) e = e
     off (Some (form.Eot f k)) e = e
@@ -93,10 +95,14 @@ by_word c x start.Open after h next first more is = off x (λ rest. ap (next_sta
         by true is_first = λ rest. subst (BeginsFile c) (sym (e rest)) (eqb-true l c.first_ldu is_first)
         by false is_first = λ rest b. eqb-false l c.first_ldu is_first (subst (BeginsFile c) (e rest) b)
 
-says_more : (c : Codes) (i : Seen) (s : Start) (after : List Seen) → SaysStart c after s → SaysStart c (after ++ i ∷ []) (start_after c (form_of c i.bus i.word) s)
-says_more c i s after h = by_word c (form_of c i.bus i.word) s after h (λ rest. i ∷ rest) (λ rest. refl) (after ++ i ∷ []) (λ rest. append_assoc after (i ∷ []) rest)
+says_more : (c : Codes) (i : Seen) (s : Start) (after : List Seen)
+    → SaysStart c after s → SaysStart c (after ++ i ∷ []) (start_after c (form_of c i.bus i.word) s)
+says_more c i s after h =
+    by_word c (form_of c i.bus i.word) s after h (λ rest. i ∷ rest) (λ rest. refl) (after ++ i ∷ [])
+    (λ rest. append_assoc after (i ∷ []) rest)
 
-at_more : (p : Contents) (items : List Seen) (i : Seen) (n : ℕ) (s : Start) → HasRequestAt p items n s → HasRequestAt p (items ++ i ∷ []) n (start_after p.codes (form_of p.codes i.bus i.word) s)
+at_more : (p : Contents) (items : List Seen) (i : Seen) (n : ℕ) (s : Start)
+    → HasRequestAt p items n s → HasRequestAt p (items ++ i ∷ []) n (start_after p.codes (form_of p.codes i.bus i.word) s)
 at_more p items i n s h = record {
   before = h.before;
   request = h.request;
@@ -107,7 +113,8 @@ at_more p items i n s h = record {
   says = says_more p.codes i s h.after h.says;
 }
 
-at_here : (p : Contents) (items : List Seen) (i : Seen) → IsSome (asks i.bus (form_of p.codes i.bus i.word)) → HasRequestAt p (items ++ i ∷ []) (length items) start.Open
+at_here : (p : Contents) (items : List Seen) (i : Seen)
+    → IsSome (asks i.bus (form_of p.codes i.bus i.word)) → HasRequestAt p (items ++ i ∷ []) (length items) start.Open
 at_here p items i h = record {
   before = items;
   request = i;
@@ -122,18 +129,24 @@ at_here p items i h = record {
 at_inside : (p : Contents) (items : List Seen) (n : ℕ) (s : Start) → HasRequestAt p items n s → n < length items
 at_inside p items n s h = omega (arith, h.place, ap length h.all, length-append h.before (h.request ∷ h.after))
 
-begins_at : (p : Contents) (before after : List Seen) (r : Seen) → BeginsFileAt p (before ++ r ∷ after) (length before) ≡ BeginsAnew p.codes r after
+begins_at : (p : Contents) (before after : List Seen) (r : Seen)
+    → BeginsFileAt p (before ++ r ∷ after) (length before) ≡ BeginsAnew p.codes r after
 begins_at p [] after r = refl
 begins_at p (x ∷ before) after r = begins_at p before after r
 
 -- whether a file begins with a request, its words say
-file_at : (p : Contents) (items rest : List Seen) (n : ℕ) (s : Start) (h : HasRequestAt p items n s) → BeginsFileAt p (items ++ rest) n ≡ BeginsAnew p.codes h.request (h.after ++ rest)
+file_at : (p : Contents) (items rest : List Seen) (n : ℕ) (s : Start) (h : HasRequestAt p items n s)
+    → BeginsFileAt p (items ++ rest) n ≡ BeginsAnew p.codes h.request (h.after ++ rest)
 file_at p items rest n s h =
     ap (λ (l : List Seen). BeginsFileAt p l n) (ap (λ (l : List Seen). l ++ rest) h.all ∙ append_assoc h.before (h.request ∷ h.after) rest)
     ∙ ap (BeginsFileAt p (h.before ++ h.request ∷ (h.after ++ rest))) h.place ∙ begins_at p h.before (h.after ++ rest) h.request
 
 pub may_end : (p : Contents) (items rest : List Seen) (m : Mark) → IsMarked p items start.OfFile m → MayEnd p (items ++ rest) m.place
-may_end p items rest m (h, some) = (some, subst (λ (T : Type 0). T) (sym (file_at p items rest m.place start.OfFile h)) (asks_on h.request.bus (form_of p.codes h.request.bus h.request.word) h.asks, h.says rest))
+may_end p items rest m (h, some) = (
+  some,
+  subst (λ (T : Type 0). T) (sym (file_at p items rest m.place start.OfFile h))
+      (asks_on h.request.bus (form_of p.codes h.request.bus h.request.word) h.asks, h.says rest),
+)
 
 -- ---- whether a piece is begun before
 
@@ -141,17 +154,24 @@ begins_or_goes_on : (c : Codes) (n : Option UnitNumber) → BeginsFile c n → G
 begins_or_goes_on c None begins on = on
 begins_or_goes_on c (Some n) begins on = on begins
 
-pub begun_before : (p : Contents) (items : List Seen) (first : Option Start) → IsFirst p items first → (is_before first ≡ true) ↔ IsBegunBefore p items
-begun_before p items None is = (λ e. absurd (cc e), λ b. absurd (subst (GoesOnWithFile p.codes) (ap (asked_start p.codes) (sym (append-nil items)) ∙ is []) b))
-begun_before p items (Some start.Open) is = (λ e. absurd (cc e), λ b. absurd (subst (GoesOnWithFile p.codes) (ap (asked_start p.codes) (sym (append-nil items)) ∙ is []) b))
+pub begun_before : (p : Contents) (items : List Seen) (first : Option Start)
+    → IsFirst p items first → (is_before first ≡ true) ↔ IsBegunBefore p items
+begun_before p items None is =
+    (λ e. absurd (cc e), λ b. absurd (subst (GoesOnWithFile p.codes) (ap (asked_start p.codes) (sym (append-nil items)) ∙ is []) b))
+begun_before p items (Some start.Open) is =
+    (λ e. absurd (cc e), λ b. absurd (subst (GoesOnWithFile p.codes) (ap (asked_start p.codes) (sym (append-nil items)) ∙ is []) b))
 begun_before p items (Some start.OfFile) is = (
   λ e. absurd (cc e),
-  λ b. absurd (begins_or_goes_on p.codes (asked_start p.codes items) (subst (λ (l : List Seen). BeginsFile p.codes (asked_start p.codes l)) (append-nil items) (is [])) b),
+  λ b.
+      absurd (begins_or_goes_on p.codes (asked_start p.codes items)
+      (subst (λ (l : List Seen). BeginsFile p.codes (asked_start p.codes l)) (append-nil items) (is [])) b),
 )
-begun_before p items (Some start.Other) is = (λ e. subst (λ (l : List Seen). GoesOnWithFile p.codes (asked_start p.codes l)) (append-nil items) (is []), λ b. refl)
+begun_before p items (Some start.Other) is =
+    (λ e. subst (λ (l : List Seen). GoesOnWithFile p.codes (asked_start p.codes l)) (append-nil items) (is []), λ b. refl)
 
 -- what is said of the first start word after a request, after one more word
-first_by_word : (p : Contents) (i : Seen) (x : Option Form) → form_of p.codes i.bus i.word ≡ x → (items all : List Seen) → ((rest : List Seen) → all ++ rest ≡ items ++ i ∷ rest)
+first_by_word : (p : Contents) (i : Seen) (x : Option Form)
+    → form_of p.codes i.bus i.word ≡ x → (items all : List Seen) → ((rest : List Seen) → all ++ rest ≡ items ++ i ∷ rest)
     → (s : Start) → IsFirst p items (Some s) → IsFirst p all (Some (first_after p.codes x s))
 first_by_word p i x e items all is start.OfFile f = off x
   where
@@ -181,9 +201,11 @@ first_by_word p i x e items all is start.Other f = off x
     off (Some (form.Cts n)) = same
     off (Some (form.Ack h l)) = same
     off (Some (form.Nak n)) = same
-first_by_word p i x e items all is start.Open f = off x (λ rest. ap (asked_start p.codes) (is rest) ∙ f (i ∷ rest) ∙ ap (λ (y : Option Form). start_or y (first_start p.codes rest)) e)
+first_by_word p i x e items all is start.Open f =
+    off x (λ rest. ap (asked_start p.codes) (is rest) ∙ f (i ∷ rest) ∙ ap (λ (y : Option Form). start_or y (first_start p.codes rest)) e)
   where
-    off : (x : Option Form) → ((rest : List Seen) → asked_start p.codes (all ++ rest) ≡ start_or x (first_start p.codes rest)) → IsFirst p all (Some (first_after p.codes x start.Open))
+    off : (x : Option Form) → ((rest : List Seen) → asked_start p.codes (all ++ rest) ≡ start_or x (first_start p.codes rest))
+        → IsFirst p all (Some (first_after p.codes x start.Open))
     off None h = h
     off (Some (form.Rts n)) h = h
     off (Some (form.Part s)) h = h
@@ -225,7 +247,8 @@ open_on c (Some (form.Cts n)) e later = refl
 open_on c (Some (form.Ack f l)) e later = refl
 open_on c (Some (form.Nak n)) e later = refl
 
-other_on : (c : Codes) (x : Option Form) → start_after c x start.Open ≡ start.Other → (later : Option UnitNumber) → BeginsFile c (start_by x later) → ⊥
+other_on : (c : Codes) (x : Option Form)
+    → start_after c x start.Open ≡ start.Other → (later : Option UnitNumber) → BeginsFile c (start_by x later) → ⊥
 other_on c (Some (form.Rts n)) e later b = b
 other_on c (Some (form.Sot g f l)) e later b = by (l == c.first_ldu) refl e
   where
@@ -269,14 +292,18 @@ module _ (p : Contents) (items : List Seen) (i : Seen) (r : Requests) (is : AreR
   words_on : (rest : List Seen) → all ++ rest ≡ items ++ i ∷ rest
   words_on rest = append_assoc items (i ∷ []) rest
 
-  first_by : (first : Option Start) → IsFirst p items first → (n : Option ℕ) → asks i.bus x ≡ n → IsFirst p all (asked_first n (option_map (first_after p.codes x) first))
-  first_by None none None e = λ rest. ap (asked_start p.codes) (words_on rest) ∙ none (i ∷ rest) ∙ ap (λ (n : Option ℕ). if_asked n (first_start p.codes rest) (asked_start p.codes rest)) e
-  first_by None none (Some n) e = λ rest. ap (asked_start p.codes) (words_on rest) ∙ none (i ∷ rest) ∙ ap (λ (n : Option ℕ). if_asked n (first_start p.codes rest) (asked_start p.codes rest)) e
+  first_by : (first : Option Start)
+      → IsFirst p items first → (n : Option ℕ) → asks i.bus x ≡ n → IsFirst p all (asked_first n (option_map (first_after p.codes x) first))
+  first_by None none None e = λ rest. ap (asked_start p.codes) (words_on rest) ∙ none (i ∷ rest)
+      ∙ ap (λ (n : Option ℕ). if_asked n (first_start p.codes rest) (asked_start p.codes rest)) e
+  first_by None none (Some n) e = λ rest. ap (asked_start p.codes) (words_on rest) ∙ none (i ∷ rest)
+      ∙ ap (λ (n : Option ℕ). if_asked n (first_start p.codes rest) (asked_start p.codes rest)) e
   first_by (Some s) f None e = first_by_word p i x refl items all words_on s f
   first_by (Some s) f (Some n) e = first_by_word p i x refl items all words_on s f
 
   -- the last place, and the one in doubt
-  place_by : (s : Start) → now ≡ s → (place doubt : Option Mark) → IfSome place (IsMarked p items start.OfFile) → IfSome doubt (IsMarked p items start.Open) → IfSome (later_place s doubt place) (IsMarked p all start.OfFile)
+  place_by : (s : Start) → now ≡ s → (place doubt : Option Mark) → IfSome place (IsMarked p items start.OfFile)
+      → IfSome doubt (IsMarked p items start.Open) → IfSome (later_place s doubt place) (IsMarked p all start.OfFile)
   place_by s e None None hp hd = none s
     where
       none : (s : Start) → IfSome (later_place s None None) (IsMarked p all start.OfFile)
@@ -295,10 +322,13 @@ module _ (p : Contents) (items : List Seen) (i : Seen) (r : Requests) (is : AreR
   place_by start.OfFile e place (Some d) hp hd = (subst (HasRequestAt p all d.place) e (at_more p items i d.place start.Open hd.0), hd.1)
   place_by start.Open e None (Some d) hp hd = tt
   place_by start.Other e None (Some d) hp hd = tt
-  place_by start.Open e (Some m) (Some d) hp hd = (subst (HasRequestAt p all m.place) (of_file p.codes x) (at_more p items i m.place start.OfFile hp.0), hp.1)
-  place_by start.Other e (Some m) (Some d) hp hd = (subst (HasRequestAt p all m.place) (of_file p.codes x) (at_more p items i m.place start.OfFile hp.0), hp.1)
+  place_by start.Open e (Some m) (Some d) hp hd =
+      (subst (HasRequestAt p all m.place) (of_file p.codes x) (at_more p items i m.place start.OfFile hp.0), hp.1)
+  place_by start.Other e (Some m) (Some d) hp hd =
+      (subst (HasRequestAt p all m.place) (of_file p.codes x) (at_more p items i m.place start.OfFile hp.0), hp.1)
 
-  doubt_by : (s : Start) → now ≡ s → (doubt : Option Mark) → IfSome doubt (IsMarked p items start.Open) → IfSome (later_doubt s doubt) (IsMarked p all start.Open)
+  doubt_by : (s : Start) → now ≡ s → (doubt : Option Mark) → IfSome doubt (IsMarked p items start.Open)
+      → IfSome (later_doubt s doubt) (IsMarked p all start.Open)
   doubt_by start.Open e None hd = tt
   doubt_by start.Open e (Some d) hd = (subst (HasRequestAt p all d.place) e (at_more p items i d.place start.Open hd.0), hd.1)
   doubt_by start.OfFile e doubt hd = tt
@@ -314,9 +344,11 @@ module _ (p : Contents) (items : List Seen) (i : Seen) (r : Requests) (is : AreR
 
   -- no other place
   found_by : (s : Start) → now ≡ s → (rest : List Seen) (m : ℕ) (place doubt : Option Mark) → AreOrdered place doubt
-      → IsUpToMark m place ⊎ (IsAt m doubt × BeginsFile p.codes (next_start p.codes (i ∷ rest))) → IsUpToMark m (later_place s doubt place) ⊎ (IsAt m (later_doubt s doubt) × BeginsFile p.codes (next_start p.codes rest))
+      → IsUpToMark m place ⊎ (IsAt m doubt × BeginsFile p.codes (next_start p.codes (i ∷ rest)))
+      → IsUpToMark m (later_place s doubt place) ⊎ (IsAt m (later_doubt s doubt) × BeginsFile p.codes (next_start p.codes rest))
   found_by start.Open e rest m place doubt order (inl h) = inl h
-  found_by start.Open e rest m place doubt order (inr (h, b)) = inr (h, subst (BeginsFile p.codes) (open_on p.codes x e (next_start p.codes rest)) b)
+  found_by start.Open e rest m place doubt order (inr (h, b)) =
+      inr (h, subst (BeginsFile p.codes) (open_on p.codes x e (next_start p.codes rest)) b)
   found_by start.OfFile e rest m None None order (inl h) = absurd h
   found_by start.OfFile e rest m None None order (inr (h, b)) = absurd h
   found_by start.OfFile e rest m (Some n) None order (inl h) = inl h
@@ -328,13 +360,20 @@ module _ (p : Contents) (items : List Seen) (i : Seen) (r : Requests) (is : AreR
   found_by start.Other e rest m place doubt order (inr (h, b)) = absurd (other_on p.codes x e (next_start p.codes rest) b)
 
   -- of the words before it
-  found_before : (s : Start) → now ≡ s → (rest : List Seen) (m : ℕ) → m < length items → MayEnd p (all ++ rest) m → IsUpToMark m (later_place s r.doubt r.place) ⊎ (IsAt m (later_doubt s r.doubt) × BeginsFile p.codes (next_start p.codes rest))
-  found_before s e rest m l h = found_by s e rest m r.place r.doubt is.order (is.others (i ∷ rest) m l (subst (λ (k : List Seen). MayEnd p k m) (append_assoc items (i ∷ []) rest) h))
+  found_before : (s : Start) → now ≡ s → (rest : List Seen) (m : ℕ) → m < length items → MayEnd p (all ++ rest) m
+      → IsUpToMark m (later_place s r.doubt r.place) ⊎ (IsAt m (later_doubt s r.doubt) × BeginsFile p.codes (next_start p.codes rest))
+  found_before s e rest m l h =
+      found_by s e rest m r.place r.doubt is.order
+      (is.others (i ∷ rest) m l (subst (λ (k : List Seen). MayEnd p k m) (append_assoc items (i ∷ []) rest) h))
 
   -- the word itself
   found_here : (rest : List Seen) (m : ℕ) → m ≡ length items → MayEnd p (all ++ rest) m → (0 < length items) × BeginsAnew p.codes i rest
-  found_here rest m e (some, begins) =
-      (omega (arith, e, some), subst (λ (T : Type 0). T) (begins_at p items rest i) (subst (BeginsFileAt p (items ++ i ∷ rest)) e (subst (λ (k : List Seen). BeginsFileAt p k m) (append_assoc items (i ∷ []) rest) begins)))
+  found_here rest m e (some, begins) = (
+    omega (arith, e, some),
+    subst (λ (T : Type 0). T) (begins_at p items rest i)
+        (subst (BeginsFileAt p (items ++ i ∷ rest)) e
+        (subst (λ (k : List Seen). BeginsFileAt p k m) (append_assoc items (i ∷ []) rest) begins)),
+  )
 
   inside_or : (m : ℕ) → m < length all → (m < length items) ⊎ (m ≡ length items)
   inside_or m l = by (cases_order m (length items))
@@ -353,7 +392,9 @@ module _ (p : Contents) (items : List Seen) (i : Seen) (r : Requests) (is : AreR
     others = λ rest m l h. by rest m h (inside_or m l);
   }
     where
-      by : (rest : List Seen) (m : ℕ) → MayEnd p (all ++ rest) m → (m < length items) ⊎ (m ≡ length items) → IsUpToMark m (later_place now r.doubt r.place) ⊎ (IsAt m (later_doubt now r.doubt) × BeginsFile p.codes (next_start p.codes rest))
+      by : (rest : List Seen) (m : ℕ) → MayEnd p (all ++ rest) m → (m < length items) ⊎ (m ≡ length items)
+          → IsUpToMark m (later_place now r.doubt r.place)
+          ⊎ (IsAt m (later_doubt now r.doubt) × BeginsFile p.codes (next_start p.codes rest))
       by rest m h (inl l) = found_before now refl rest m l h
       by rest m h (inr e) = absurd (cc (subst IsSome quiet (on_asks i.bus x (found_here rest m e h).1.0)))
 
@@ -371,16 +412,22 @@ module _ (p : Contents) (items : List Seen) (i : Seen) (r : Requests) (is : AreR
     ordered None h = tt
     ordered (Some m) h = let l = at_inside p items m.place start.OfFile h.0 in omega (arith, l, place)
 
-    found : (rest : List Seen) (m : ℕ) → MayEnd p (all ++ rest) m → (m < length items) ⊎ (m ≡ length items) → IsUpToMark m (later_place now r.doubt r.place) ⊎ ((m ≡ mark.place) × (0 < mark.place) × BeginsFile p.codes (next_start p.codes rest))
+    found : (rest : List Seen) (m : ℕ) → MayEnd p (all ++ rest) m → (m < length items) ⊎ (m ≡ length items)
+        → IsUpToMark m (later_place now r.doubt r.place)
+        ⊎ ((m ≡ mark.place) × (0 < mark.place) × BeginsFile p.codes (next_start p.codes rest))
     found rest m h (inl l) = by (found_before start.Other other rest m l h)
       where
-        by : IsUpToMark m (later_place start.Other r.doubt r.place) ⊎ (IsAt m (later_doubt start.Other r.doubt) × BeginsFile p.codes (next_start p.codes rest)) → IsUpToMark m (later_place now r.doubt r.place) ⊎ ((m ≡ mark.place) × (0 < mark.place) × BeginsFile p.codes (next_start p.codes rest))
+        by : IsUpToMark m (later_place start.Other r.doubt r.place)
+            ⊎ (IsAt m (later_doubt start.Other r.doubt) × BeginsFile p.codes (next_start p.codes rest))
+            → IsUpToMark m (later_place now r.doubt r.place)
+            ⊎ ((m ≡ mark.place) × (0 < mark.place) × BeginsFile p.codes (next_start p.codes rest))
         by (inl u) = inl (subst (λ (s : Start). IsUpToMark m (later_place s r.doubt r.place)) (sym other) u)
         by (inr b) = absurd b.0
     found rest m h (inr e) = let f = found_here rest m e h in inr (e ∙ sym place, subst (λ (k : ℕ). 0 < k) (sym place) f.0, f.1.1)
 
     after_request : (d : Option Mark) → IfSome d (IsMarked p all start.Open) → AreOrdered (later_place now r.doubt r.place) d
-        → ((rest : List Seen) (m : ℕ) → (m ≡ mark.place) × (0 < mark.place) × BeginsFile p.codes (next_start p.codes rest) → IsAt m d × BeginsFile p.codes (next_start p.codes rest))
+        → ((rest : List Seen) (m : ℕ) → (m ≡ mark.place) × (0 < mark.place) × BeginsFile p.codes (next_start p.codes rest)
+        → IsAt m d × BeginsFile p.codes (next_start p.codes rest))
         → AreRequests p all (record { first = first_asked (settled p.codes x r).first; place = later_place now r.doubt r.place; doubt = d })
     after_request d hd order here = record {
       first = first_by r.first is.first (Some n) asks_n;
@@ -390,18 +437,35 @@ module _ (p : Contents) (items : List Seen) (i : Seen) (r : Requests) (is : AreR
       others = λ rest m l h. by rest m (found rest m h (inside_or m l));
     }
       where
-        by : (rest : List Seen) (m : ℕ) → IsUpToMark m (later_place now r.doubt r.place) ⊎ ((m ≡ mark.place) × (0 < mark.place) × BeginsFile p.codes (next_start p.codes rest)) → IsUpToMark m (later_place now r.doubt r.place) ⊎ (IsAt m d × BeginsFile p.codes (next_start p.codes rest))
+        by : (rest : List Seen) (m : ℕ)
+            → IsUpToMark m (later_place now r.doubt r.place)
+            ⊎ ((m ≡ mark.place) × (0 < mark.place) × BeginsFile p.codes (next_start p.codes rest))
+            → IsUpToMark m (later_place now r.doubt r.place) ⊎ (IsAt m d × BeginsFile p.codes (next_start p.codes rest))
         by rest m (inl u) = inl u
         by rest m (inr b) = inr (here rest m b)
 
     with_request : AreRequests p all (asked mark (settled p.codes x r))
     with_request = by mark.place refl
       where
-        by : (k : ℕ) → mark.place ≡ k → AreRequests p all (record { first = first_asked (settled p.codes x r).first; place = later_place now r.doubt r.place; doubt = cond (nat_lt 0 k) (Some mark) (later_doubt now r.doubt) })
-        by zero e = after_request (later_doubt now r.doubt) (doubt_by now refl r.doubt is.doubt) (order_by now r.place r.doubt is.order) (λ rest m b. absurd (omega (arith, e, b.1)))
+        by : (k : ℕ) → mark.place ≡ k
+            → AreRequests p all (record {
+              first = first_asked (settled p.codes x r).first;
+              place = later_place now r.doubt r.place;
+              doubt = cond (nat_lt 0 k) (Some mark) (later_doubt now r.doubt);
+            })
+        by zero e =
+            after_request (later_doubt now r.doubt) (doubt_by now refl r.doubt is.doubt) (order_by now r.place r.doubt is.order)
+            (λ rest m b. absurd (omega (arith, e, b.1)))
         by (suc k) e =
-            subst (λ (b : Bool). AreRequests p all (record { first = first_asked (settled p.codes x r).first; place = later_place now r.doubt r.place; doubt = cond b (Some mark) (later_doubt now r.doubt) })) (sym (lt-ltb 0 (suc k) (omega arith)))
-            (after_request (Some mark) (subst (λ (m : ℕ). HasRequestAt p all m start.Open) (sym place) (at_here p items i (subst IsSome (sym asks_n) refl)), omega (arith, e))
+            subst (λ (b : Bool). AreRequests p all (record {
+              first = first_asked (settled p.codes x r).first;
+              place = later_place now r.doubt r.place;
+              doubt = cond b (Some mark) (later_doubt now r.doubt);
+            })) (sym (lt-ltb 0 (suc k) (omega arith)))
+            (after_request (Some mark) (
+              subst (λ (m : ℕ). HasRequestAt p all m start.Open) (sym place) (at_here p items i (subst IsSome (sym asks_n) refl)),
+              omega (arith, e),
+            )
             (subst (λ (q : Option Mark). AreOrdered q (Some mark)) (sym before) (ordered r.place is.place)) (λ rest m b. (b.0, b.2)))
 
   pub requests_more : (mark : Mark) → mark.place ≡ length items → AreRequests p all (requests_after p.codes i.bus x mark r)

@@ -92,7 +92,8 @@ load_due p s u o fs n b =
     sym (ap (λ (t : Bool). cond t None (file_ended p.codes s.source.number u)) new)
 
 -- an answer that the source takes leaves its unit, or ends it
-either : (p : Contents) (s t : Source) (b : Bool) (last : Option Number) (due : Option ℕ) → DueBy p s last due → DueBy p t last due → DueBy p (cond b s t) last due
+either : (p : Contents) (s t : Source) (b : Bool) (last : Option Number) (due : Option ℕ)
+    → DueBy p s last due → DueBy p t last due → DueBy p (cond b s t) last due
 either p s t true last due h k = h
 either p s t false last due h k = k
 
@@ -103,11 +104,13 @@ with_answer_due p (Some u) Waiting (form.Ack f l) s last due h = either p (ackno
 with_answer_due p (Some u) Waiting (form.Nak bits) s last due h = h
 with_answer_due p _ _ _ s last due h = h
 
-form_due : (p : Contents) (o : Option Form) (s : Source) (last : Option Number) (due : Option ℕ) → DueBy p s last due → DueBy p (with_answer_form p.codes o s) last due
+form_due : (p : Contents) (o : Option Form) (s : Source) (last : Option Number) (due : Option ℕ)
+    → DueBy p s last due → DueBy p (with_answer_form p.codes o s) last due
 form_due p None s last due h = h
 form_due p (Some x) s last due h = with_answer_due p s.current s.phase x s last due h
 
-first_due : (p : Contents) (ws : List ℕ) (s : Source) (last : Option Number) (due : Option ℕ) → DueBy p s last due → DueBy p (with_answer_first p.codes ws s) last due
+first_due : (p : Contents) (ws : List ℕ) (s : Source) (last : Option Number) (due : Option ℕ)
+    → DueBy p s last due → DueBy p (with_answer_first p.codes ws s) last due
 first_due p [] s last due h = h
 first_due p (w ∷ ws) s last due h = form_due p (form_of p.codes bus.B w) s last due h
 
@@ -124,12 +127,15 @@ takes_keeps p (w ∷ ws) k = (form_last p w (form_of p.codes bus.A w) k, takes_r
 -- ---- an answer
 
 -- the sink delivers the file that crosses, and none else; what is due then
-record Answers (p : Contents) (number : UnitNumber) (cur : Option LduValue) (old new : Sink) (due : Option ℕ) (acknowledged : Bool) : Type 0 where
+record Answers (p : Contents) (number : UnitNumber) (cur : Option LduValue) (old new : Sink) (due : Option ℕ)
+    (acknowledged : Bool) : Type 0 where
   next : DueAt p number cur new.last (still_due acknowledged due)
   gives : numbers new.received.files ≡ numbers old.received.files ++ cons_option (crossing acknowledged due) []
 
-put_numbers : (file : ℕ) (bytes : List ℕ) (t : Bool) (s : Received) → numbers (put file bytes t s).files ≡ numbers s.files ++ cons_option (cond t (Some file) None) []
-put_numbers file bytes true s = map-append (λ (f : FileBytes). f.number) s.files (record { number = file; bytes = s.open_bytes ++ bytes } ∷ [])
+put_numbers : (file : ℕ) (bytes : List ℕ) (t : Bool) (s : Received)
+    → numbers (put file bytes t s).files ≡ numbers s.files ++ cons_option (cond t (Some file) None) []
+put_numbers file bytes true s =
+    map-append (λ (f : FileBytes). f.number) s.files (record { number = file; bytes = s.open_bytes ++ bytes } ∷ [])
 put_numbers file bytes false s = sym (append-nil (numbers s.files))
 
 -- the block of the source's unit is accepted
@@ -147,30 +153,40 @@ accepted p number u b fl k due w d = by (is_same k.last (number_of b)) refl
     same = ap (λ (n : UnitNumber). is_number n number) w.told ∙ number_same number
 
     ends : cond (is_final p.codes fl) (Some b.file) None ≡ file_ended p.codes number u
-    ends = ap (λ (q : ℕ). cond (is_final p.codes q) (Some b.file) None) w.flags ∙ ap (λ (n : UnitNumber). cond (is_final p.codes u.flags) (Some n.file) None) w.told
+    ends = ap (λ (q : ℕ). cond (is_final p.codes q) (Some b.file) None) w.flags
+        ∙ ap (λ (n : UnitNumber). cond (is_final p.codes u.flags) (Some n.file) None) w.told
 
     by : (t : Bool) → is_same k.last (number_of b) ≡ t
-        → Answers p number (Some u) k (cond t k (record k { last = Some (record { number = number_of b; final = is_final p.codes fl }); received = put b.file (bytes_in p.codes b.words) (is_final p.codes fl) kept })) due true
+        → Answers p number (Some u) k
+        (cond t k (record k {
+          last = Some (record { number = number_of b; final = is_final p.codes fl });
+          received = put b.file (bytes_in p.codes b.words) (is_final p.codes fl) kept;
+        })) due true
     by true e = record {
       next = sym (ap (λ (q : Bool). cond q None (file_ended p.codes number u)) (ap (is_same k.last) (sym w.told) ∙ e));
-      gives = sym (append-nil (numbers k.received.files)) ∙ ap (λ (o : Option ℕ). numbers k.received.files ++ cons_option o []) (sym (here true e));
+      gives = sym (append-nil (numbers k.received.files))
+          ∙ ap (λ (o : Option ℕ). numbers k.received.files ++ cons_option o []) (sym (here true e));
     }
     by false e = record {
       next = sym (ap (λ (q : Bool). cond q None (file_ended p.codes number u)) same);
       gives =
           put_numbers b.file (bytes_in p.codes b.words) (is_final p.codes fl) kept
-          ∙ ap (λ (l : List FileBytes). numbers l ++ cons_option (cond (is_final p.codes fl) (Some b.file) None) []) (received_for_files k.last b.file k.received)
+          ∙ ap (λ (l : List FileBytes). numbers l ++ cons_option (cond (is_final p.codes fl) (Some b.file) None) [])
+          (received_for_files k.last b.file k.received)
           ∙ ap (λ (o : Option ℕ). numbers k.received.files ++ cons_option o []) (ends ∙ sym (here false e));
     }
 
 -- the sink acknowledges only the unit of the source
-acknowledges_own : (p : Contents) (number : UnitNumber) (cur : Option LduValue) (sp : SourceState) (count : ℕ) (kp : SinkPhase) (xs ys : List Message) (k : Sink) (due : Option ℕ) (f l : ℕ)
-    → MaySay count kp (Ack f l) → Config number cur sp count kp xs ys → DueAt p number cur k.last due → Answers p number cur k (accepts_owed p.codes kp k) due true
+acknowledges_own : (p : Contents) (number : UnitNumber) (cur : Option LduValue) (sp : SourceState) (count : ℕ) (kp : SinkPhase)
+    (xs ys : List Message) (k : Sink) (due : Option ℕ) (f l : ℕ)
+    → MaySay count kp (Ack f l) → Config number cur sp count kp xs ys → DueAt p number cur k.last due
+    → Answers p number cur k (accepts_owed p.codes kp k) due true
 acknowledges_own p number cur sp count kp xs ys k due f l m (whole {u} {b} {flags} r h) d = accepted p number u b flags k due h d
 acknowledges_own p number cur sp count kp xs ys k due f l m (idle r s) d = absurd (owes_stale kp (may_owes count kp (Ack f l) m) s)
 acknowledges_own p number cur sp count kp xs ys k due f l m (asked r s q) d = absurd (owes_stale kp (may_owes count kp (Ack f l) m) s)
 acknowledges_own p number cur sp count kp xs ys k due f l m (unasked r s) d = absurd (owes_stale kp (may_owes count kp (Ack f l) m) s)
-acknowledges_own p number cur sp count kp xs ys k due f l m (sending r i q le h) d = absurd (owes_grant kp (may_owes count kp (Ack f l) m) i)
+acknowledges_own p number cur sp count kp xs ys k due f l m (sending r i q le h) d =
+    absurd (owes_grant kp (may_owes count kp (Ack f l) m) i)
 acknowledges_own p number cur sp count kp xs ys k due f l m (waiting r i q h) d = absurd (owes_grant kp (may_owes count kp (Ack f l) m) i)
 acknowledges_own p number cur sp count kp xs ys k due f l m _ d = absurd m
 
@@ -196,7 +212,8 @@ abbrev IsNext : List Entry → ℕ → Option Seen → Type 0
 IsNext es i None = Unit {0}
 IsNext es i (Some item) = NextEntry es i item
 
-next_entry : (es : List Entry) (before : List Seen) (item : Seen) (more : List Seen) → items_of es ≡ before ++ item ∷ more → NextEntry es (length before) item
+next_entry : (es : List Entry) (before : List Seen) (item : Seen) (more : List Seen)
+    → items_of es ≡ before ++ item ∷ more → NextEntry es (length before) item
 next_entry [] [] item more e = absurd (cc e)
 next_entry [] (b ∷ before) item more e = absurd (cc e)
 next_entry (x ∷ es) [] item more e = record { entry = x; found = refl; is = cc; inside = omega arith }
@@ -206,7 +223,8 @@ next_entry (x ∷ es) (b ∷ before) item more e =
     let inside = n.inside in
     record { entry = n.entry; found = n.found; is = n.is; inside = omega arith }
 
-next_is : (es : List Entry) (before : List Seen) (l : Option Seen) (more later : List Seen) → items_of es ≡ before ++ (with_label l more ++ later) → IsNext es (length before) l
+next_is : (es : List Entry) (before : List Seen) (l : Option Seen) (more later : List Seen)
+    → items_of es ≡ before ++ (with_label l more ++ later) → IsNext es (length before) l
 next_is es before None more later e = tt
 next_is es before (Some item) more later e = next_entry es before item (more ++ later) e
 
@@ -225,12 +243,14 @@ record Goes (p : Contents) (span : Span) (a : Step) (s : State) (i : ℕ) (at : 
 
 -- a step that records nothing, and leaves the files
 unseen_goes : (p : Contents) (span : Span) (a : Step) (s : State) (i : ℕ) (at : Place) (x : Act)
-    → at.next ≡ i → length (trace (a ∷ [])) ≡ 0 → DueBy p (after p a s).source (after p a s).sink.last at.due → (after p a s).sink.received.files ≡ s.sink.received.files
+    → at.next ≡ i → length (trace (a ∷ [])) ≡ 0 → DueBy p (after p a s).source (after p a s).sink.last at.due
+    → (after p a s).sink.received.files ≡ s.sink.received.files
     → Goes p span a s i at (Makes x None)
 unseen_goes p span a s i at x n z d f = record {
   next = omega (arith, n, z);
   due = d;
-  gives = ap numbers f ∙ no_number s.sink.received.files (cond (is_within span at.next) (listed (unseen x)) []) (unseen_says (is_within span at.next) x);
+  gives = ap numbers f
+      ∙ no_number s.sink.received.files (cond (is_within span at.next) (listed (unseen x)) []) (unseen_says (is_within span at.next) x);
 }
 
 -- a step that records a word which is no acknowledgement, and leaves the files
@@ -245,10 +265,12 @@ seen_goes p es span a s item i at x n z h none d f =
     (record {
       next = omega (arith, z);
       due = subst (λ (b : Bool). DueBy p (after p a s).source (after p a s).sink.last (still_due b at.due)) (sym no) d;
-      gives = ap numbers f ∙ no_number s.sink.received.files (shown p.codes span at t) (seen_says (is_within span at.next) _ (ap (λ (b : Bool). crossing b at.due) no));
+      gives = ap numbers f ∙ no_number s.sink.received.files (shown p.codes span at t)
+          (seen_says (is_within span at.next) _ (ap (λ (b : Bool). crossing b at.due) no));
     })
 
-answered_goes : (p : Contents) (es : List Entry) (span : Span) (s : State) (item : Seen) (i : ℕ) (at : Place) (o : Received) (fs : List FileBytes)
+answered_goes : (p : Contents) (es : List Entry) (span : Span) (s : State) (item : Seen) (i : ℕ) (at : Place) (o : Received)
+    (fs : List FileBytes)
     → HasAll span es → Can p (Answered item) s → Books p s o fs → at.next ≡ i → NextEntry es i item → DueBy p s.source s.sink.last at.due
     → Goes p span (Answered item) s i at (report_of es s i (Answered item))
 answered_goes p es span s item i at o fs all can b n h d =
@@ -256,7 +278,8 @@ answered_goes p es span s item i at o fs all can b n h d =
     let a = answers_so p s.source b.holds.xs b.holds.ys s.sink at.due x can.1 b.holds.fits d in
     let bus_is : h.entry.bus ≡ bus.B = ap (λ (q : Seen). q.bus) h.is ∙ can.0 in
     let word_is : h.entry.word ≡ item.word = ap (λ (q : Seen). q.word) h.is in
-    let form_is : form_of p.codes h.entry.bus h.entry.word ≡ x = ap (λ (q : Bus). form_of p.codes q h.entry.word) bus_is ∙ ap (form_of p.codes bus.B) word_is in
+    let form_is : form_of p.codes h.entry.bus h.entry.word ≡ x =
+    ap (λ (q : Bus). form_of p.codes q h.entry.word) bus_is ∙ ap (form_of p.codes bus.B) word_is in
     let ack_is : is_ack_form (form_of p.codes h.entry.bus h.entry.word) ≡ is_ack_form x = ap is_ack_form form_is in
     subst (λ (e : Option Entry). Goes p span (Answered item) s i at (Makes act.Answered (with_number i e))) (sym h.found)
     (record {
@@ -265,24 +288,36 @@ answered_goes p es span s item i at o fs all can b n h d =
       gives =
           a.gives
           ∙ ap (λ (t : Bool). numbers s.sink.received.files ++ cons_option (crossing t at.due) []) (sym ack_is)
-          ∙ ap (λ (l : List ℕ). numbers s.sink.received.files ++ l) (sym (within_says (is_within span at.next) _ (inside_span span es at.next i all n h.inside)));
+          ∙ ap (λ (l : List ℕ). numbers s.sink.received.files ++ l)
+          (sym (within_says (is_within span at.next) _ (inside_span span es at.next i all n h.inside)));
     })
 
 step_goes : (p : Contents) (es : List Entry) (span : Span) (a : Step) (s : State) (i : ℕ) (at : Place) (o : Received) (fs : List FileBytes)
-    → HasAll span es → Can p a s → Books p s o fs → at.next ≡ i → IsNext es i (label a) → DueBy p s.source s.sink.last at.due → Goes p span a s i at (report_of es s i a)
+    → HasAll span es → Can p a s → Books p s o fs → at.next ≡ i → IsNext es i (label a) → DueBy p s.source s.sink.last at.due
+    → Goes p span a s i at (report_of es s i a)
 step_goes p es span (Load u) s i at o fs all can b n h d =
-    record { next = omega (arith, n); due = load_due p s u o fs can.1 b; gives = no_number s.sink.received.files (shown p.codes span at (Loads s.source.number u)) (load_says (is_within span at.next) s.source.number) }
-step_goes p es span (Sent item) s i at o fs all can b n h d = seen_goes p es span (Sent item) s item i at act.Sent n refl h (λ e. refl) d refl
+    record {
+      next = omega (arith, n);
+      due = load_due p s u o fs can.1 b;
+      gives =
+          no_number s.sink.received.files (shown p.codes span at (Loads s.source.number u))
+          (load_says (is_within span at.next) s.source.number);
+    }
+step_goes p es span (Sent item) s i at o fs all can b n h d =
+    seen_goes p es span (Sent item) s item i at act.Sent n refl h (λ e. refl) d refl
 step_goes p es span SentLost s i at o fs all can b n h d = unseen_goes p span SentLost s i at act.SentLost n refl d refl
 step_goes p es span TimeOut s i at o fs all can b n h d = unseen_goes p span TimeOut s i at act.TimeOut n refl d refl
-step_goes p es span TakeAnswer s i at o fs all can b n h d = unseen_goes p span TakeAnswer s i at act.TakeAnswer n refl (first_due p s.to_source s.source s.sink.last at.due d) refl
+step_goes p es span TakeAnswer s i at o fs all can b n h d =
+    unseen_goes p span TakeAnswer s i at act.TakeAnswer n refl (first_due p s.to_source s.source s.sink.last at.due d) refl
 step_goes p es span LoseAnswer s i at o fs all can b n h d = unseen_goes p span LoseAnswer s i at act.LoseAnswer n refl d refl
 step_goes p es span SinkTakes s i at o fs all can b n h d =
     let keeps = takes_keeps p s.to_sink s.sink in
-    unseen_goes p span SinkTakes s i at act.SinkTakes n refl (subst (λ (l : Option Number). DueBy p s.source l at.due) (sym keeps.0) d) (ap (λ (q : Received). q.files) keeps.1)
+    unseen_goes p span SinkTakes s i at act.SinkTakes n refl (subst (λ (l : Option Number). DueBy p s.source l at.due) (sym keeps.0) d)
+    (ap (λ (q : Received). q.files) keeps.1)
 step_goes p es span Silent s i at o fs all can b n h d = unseen_goes p span Silent s i at act.Silent n refl d refl
 step_goes p es span (Answered item) s i at o fs all can b n h d = answered_goes p es span s item i at o fs all can b n h d
-step_goes p es span (FreeSeen item) s i at o fs all can b n h d = seen_goes p es span (FreeSeen item) s item i at act.FreeSeen n refl h (λ e. refl) d refl
+step_goes p es span (FreeSeen item) s i at o fs all can b n h d =
+    seen_goes p es span (FreeSeen item) s item i at act.FreeSeen n refl h (λ e. refl) d refl
 step_goes p es span GiveUp s i at o fs all can b n h d = unseen_goes p span GiveUp s i at act.GiveUp n refl tt refl
 
 -- ---- steps, one after the other
@@ -293,31 +328,41 @@ label_push (Some i) items = refl
 
 run_goes : (p : Contents) → IsRead p → (es : List Entry) (span : Span) → HasAll span es
     → (steps : List Step) (s : State) (o : Received) (fs : List FileBytes) (before later : List Seen) (at : Place) (i : ℕ)
-    → i ≡ length before → IsRun p steps s → Books p s o fs → items_of es ≡ before ++ (trace steps ++ later) → at.next ≡ i → DueBy p s.source s.sink.last at.due
-    → numbers (end_of p steps s).sink.received.files ≡ numbers s.sink.received.files ++ crossings (marks p.codes span at (reports_of_steps p es steps s i))
+    → i ≡ length before → IsRun p steps s → Books p s o fs → items_of es ≡ before ++ (trace steps ++ later) → at.next ≡ i
+    → DueBy p s.source s.sink.last at.due
+    → numbers (end_of p steps s).sink.received.files ≡ numbers s.sink.received.files
+    ++ crossings (marks p.codes span at (reports_of_steps p es steps s i))
 run_goes p good es span all [] s o fs before later at i z h b e n d = sym (append-nil (numbers s.sink.received.files))
 run_goes p good es span all (a ∷ steps) s o fs before later at i z h b e n d =
     let one = trace (a ∷ []) in
     let t = report_of es s i a in
     let files = numbers s.sink.received.files in
-    let g = step_goes p es span a s i at o fs all h.0 b n (subst (λ (k : ℕ). IsNext es k (label a)) (sym z) (next_is es before (label a) (trace steps) later e)) d in
-    let books : Books p (after p a s) (offers p a s o) (settles p a s o fs) = record { holds = step_holds p good a s h.0 b.holds; crosses = step_crosses p good a s o fs h.0 b.holds b.crosses } in
+    let g =
+    step_goes p es span a s i at o fs all h.0 b n
+    (subst (λ (k : ℕ). IsNext es k (label a)) (sym z) (next_is es before (label a) (trace steps) later e)) d in
+    let books : Books p (after p a s) (offers p a s o) (settles p a s o fs) =
+    record { holds = step_holds p good a s h.0 b.holds; crosses = step_crosses p good a s o fs h.0 b.holds b.crosses } in
     let on : items_of es ≡ (before ++ one) ++ (trace steps ++ later) =
-    e ∙ ap (λ (l : List Seen). before ++ (l ++ later)) (label_push (label a) (trace steps)) ∙ ap (λ (l : List Seen). before ++ l) (append_assoc one (trace steps) later) ∙ sym (append_assoc before one (trace steps ++ later)) in
+    e ∙ ap (λ (l : List Seen). before ++ (l ++ later)) (label_push (label a) (trace steps))
+    ∙ ap (λ (l : List Seen). before ++ l) (append_assoc one (trace steps) later) ∙ sym (append_assoc before one (trace steps ++ later)) in
     let place : i + length one ≡ length (before ++ one) = omega (arith, z, length-append before one) in
     let rows = marks p.codes span (past p.codes at t) (reports_of_steps p es steps (after p a s) (i + length one)) in
-    run_goes p good es span all steps (after p a s) (offers p a s o) (settles p a s o fs) (before ++ one) later (past p.codes at t) (i + length one) place h.1 books on g.next g.due
+    run_goes p good es span all steps (after p a s) (offers p a s o) (settles p a s o fs) (before ++ one) later (past p.codes at t)
+    (i + length one) place h.1 books on g.next g.due
     ∙ ap (λ (l : List ℕ). l ++ crossings rows) g.gives
     ∙ append_assoc files (crossings (shown p.codes span at t)) (crossings rows)
     ∙ ap (λ (l : List ℕ). files ++ l) (sym (filter_map-append file_crossing (shown p.codes span at t) rows))
 
-pub crossings_delivered : (p : Contents) (entries : List Entry) (span : Span) (r : RunOver p entries) → HasAll span entries → crossings (rows_over span r) ≡ numbers (delivered_over r)
+pub crossings_delivered : (p : Contents) (entries : List Entry) (span : Span) (r : RunOver p entries)
+    → HasAll span entries → crossings (rows_over span r) ≡ numbers (delivered_over r)
 crossings_delivered p entries span r all =
     let run = r.run.is_run in
-    sym (run_goes p (is_read p run.sound) entries span all r.run.steps (start p r.run.first) nothing_received [] [] r.later before_all 0 refl run.run (start_books p r.run.first run.byte) r.records refl tt)
+    sym (run_goes p (is_read p run.sound) entries span all r.run.steps
+    (start p r.run.first) nothing_received [] [] r.later before_all 0 refl run.run (start_books p r.run.first run.byte) r.records refl tt)
 
 -- the run by which a certificate explains delivers the files of a yes
-pub crossings_explained : (p : Contents) (entries : List Entry) (span : Span) (e : ExplainedRun p entries) → HasAll span entries → crossings (rows_explained span e) ≡ numbers e.files
+pub crossings_explained : (p : Contents) (entries : List Entry) (span : Span) (e : ExplainedRun p entries)
+    → HasAll span entries → crossings (rows_explained span e) ≡ numbers e.files
 crossings_explained p entries span e all =
     let x = e.explains in
     let run = lists_run p (map (read_as x.version) x.lines) e.steps (start p e.first) x.lists in

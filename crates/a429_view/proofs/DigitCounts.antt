@@ -7,7 +7,8 @@ use Rattle.std.proofs.lemmas.Fmt.{decimal_digit, decimal_step}
 use Rattle.itoa.proofs.Decimal.{decimal_two, length_one, length_two, length_pair, length_four}
 
 -- three digits, the first of which is known
-pub decimal_three : (n first : ℕ) → first * 100 ≤ n → n < first * 100 + 100 → 0 < first → first < 10 → decimal n ≡ (48 + first) ∷ (48 + (n - first * 100) / 10) ∷ (48 + (n - first * 100) % 10) ∷ []
+pub decimal_three : (n first : ℕ) → first * 100 ≤ n → n < first * 100 + 100 → 0 < first → first < 10
+    → decimal n ≡ (48 + first) ∷ (48 + (n - first * 100) / 10) ∷ (48 + (n - first * 100) % 10) ∷ []
 decimal_three n first lo hi some small =
     let hundreds : n / 10 / 10 ≡ first = omega arith in
     let tens : n / 10 % 10 ≡ (n - first * 100) / 10 = omega arith in
@@ -28,7 +29,8 @@ length_eight n lo hi =
 pub length_sixteen : (n : ℕ) → 10000000000000000 ≤ n → n < 2 ^ 64 → length (decimal n) ≡ length (decimal (n / 10000000000000000)) + 16
 length_sixteen n lo hi =
     let twice : n / 100000000 / 100000000 ≡ n / 10000000000000000 = omega arith in
-    omega (arith, length_eight n (omega arith) hi, length_eight (n / 100000000) (omega arith) (omega arith), ap (λ m. length (decimal m)) twice)
+    omega
+    (arith, length_eight n (omega arith) hi, length_eight (n / 100000000) (omega arith) (omega arith), ap (λ m. length (decimal m)) twice)
 
 -- ---- the next number
 
@@ -38,12 +40,14 @@ without_last xs x =
     ap (λ k. take k (xs ++ x ∷ [])) count ∙ take-append_seam xs (x ∷ [])
 
 -- it has another last digit alone, where that is not 0
-pub decimal-next : (n : ℕ) → n + 1 < 2 ^ 64 → 0 < (n + 1) % 10 → decimal (n + 1) ≡ take (length (decimal n) - 1) (decimal n) ++ (48 + (n + 1) % 10) ∷ []
+pub decimal-next : (n : ℕ)
+    → n + 1 < 2 ^ 64 → 0 < (n + 1) % 10 → decimal (n + 1) ≡ take (length (decimal n) - 1) (decimal n) ++ (48 + (n + 1) % 10) ∷ []
 decimal-next n small some = elim (cases_lt n 10) [
   | inl low ↦
       let same : (n + 1) % 10 ≡ n + 1 = omega arith in
       rw (decimal_digit (n + 1) (omega arith), decimal_digit n low, same) refl
   | inr high ↦
       let tens : (n + 1) / 10 ≡ n / 10 = omega arith in
-      rw (decimal_step (n + 1) (omega arith) small, decimal_step n high (omega arith), tens, without_last (decimal (n / 10)) (48 + n % 10)) refl
+      rw (decimal_step (n + 1) (omega arith) small, decimal_step n high (omega arith), tens, without_last (decimal (n / 10)) (48 + n % 10))
+      refl
 ]

@@ -7,20 +7,23 @@ use Rattle.a429_view.specs.Line.{Adds}
 -- a proof reads as the text does: name ▹ space ▹ number
 infixl 60 ◌▹◌
 pub ◌▹◌ : {a b c x y : List ℕ} {m n : ℕ} → Adds a b m x → Adds b c n y → Adds a c (m + n) (x ++ y)
-◌▹◌ {a} {x = x} {y = y} p q = record { added = q.added ∙ ap (λ t. t ++ y) p.added ∙ append_assoc a x y; most = omega (arith, p.most, q.most) }
+◌▹◌ {a} {x = x} {y = y} p q =
+    record { added = q.added ∙ ap (λ t. t ++ y) p.added ∙ append_assoc a x y; most = omega (arith, p.most, q.most) }
 
 -- of more bytes at most
 pub within : {a b x : List ℕ} {m : ℕ} (n : ℕ) → Adds a b m x → m ≤ n → Adds a b n x
 within n p h = record { added = p.added; most = omega (arith, p.most) }
 
 -- the bytes up to a, with the first of some bytes written behind them
-pub take-copied : (a count : ℕ) (xs ys rest : List ℕ) → a ≤ length xs → count ≤ length ys → take (a + count) (take a xs ++ (ys ++ rest)) ≡ take a xs ++ take count ys
+pub take-copied : (a count : ℕ) (xs ys rest : List ℕ)
+    → a ≤ length xs → count ≤ length ys → take (a + count) (take a xs ++ (ys ++ rest)) ≡ take a xs ++ take count ys
 take-copied a count xs ys rest h k =
     ap (λ m. take (m + count) (take a xs ++ (ys ++ rest))) (sym (length-take-le a xs h)) ∙ take-append-add (take a xs) (ys ++ rest) count
     ∙ ap (λ t. take a xs ++ t) (take-append-le count ys rest k)
 
 -- digits written behind the first bytes of a buffer
-pub digits-written : (at count start : ℕ) (text old new : List ℕ) → count ≡ length text → start + length text ≡ at + count → drop start new ≡ text ++ drop (at + count) old → take start new ≡ take start old
+pub digits-written : (at count start : ℕ) (text old new : List ℕ) → count ≡ length text → start + length text ≡ at + count
+    → drop start new ≡ text ++ drop (at + count) old → take start new ≡ take start old
     → take (at + count) new ≡ take at old ++ text
 digits-written at count start text old new e from written before =
     let same : start ≡ at = omega (arith, e) in

@@ -6,7 +6,8 @@ use Rattle.a429_view.specs.declared.mark.Mark.{Mark}
 use Rattle.a429_view.specs.Picture.{row_text, rows_text}
 
 -- one more row at the end
-rows-push : (c : Codes) (i : ℕ) (rows : List Mark) (m : Mark) → rows_text c i (rows ++ m ∷ []) ≡ rows_text c i rows ++ row_text c (30 * (i + length rows) + 70) m
+rows-push : (c : Codes) (i : ℕ) (rows : List Mark) (m : Mark)
+    → rows_text c i (rows ++ m ∷ []) ≡ rows_text c i rows ++ row_text c (30 * (i + length rows) + 70) m
 rows-push c i [] m =
     let n : i ≡ i + length {A = Mark} [] = omega arith in
     append-nil (row_text c (30 * i + 70) m) ∙ ap (λ (k : ℕ). row_text c (30 * k + 70) m) n

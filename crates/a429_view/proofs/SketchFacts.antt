@@ -23,17 +23,21 @@ none p old = record { rows = λ e. sym (append-nil old.rows.items); steps = λ e
 -- a sketch that is not full was not full before
 was_few : (p : Contents) (old : Sketch) (t : Report) (j : Sketch) → Hears p old t j → j.steps ≤ most_steps → old.steps ≤ most_steps
 was_few p old t j h e =
-    elim (cases_lt most_steps old.steps) as (λ _. old.steps ≤ most_steps) [ inl more ↦ (let full = h.full more in omega (arith, full, e)) | inr few ↦ few ]
+    elim (cases_lt most_steps old.steps) as (λ _.
+    old.steps ≤ most_steps) [ inl more ↦ (let full = h.full more in omega (arith, full, e)) | inr few ↦ few ]
 
 -- the steps behind one are those of the place to which it leads
-rows_after : (p : Contents) (old : Sketch) (t : Report) (j : Sketch) (ts : List Report) → Hears p old t j → marks p.codes j.span j.at ts ≡ marks p.codes old.span (past p.codes old.at t) ts
+rows_after : (p : Contents) (old : Sketch) (t : Report) (j : Sketch) (ts : List Report)
+    → Hears p old t j → marks p.codes j.span j.at ts ≡ marks p.codes old.span (past p.codes old.at t) ts
 rows_after p old t j ts h = ap (λ s. marks p.codes s j.at ts) h.span ∙ ap (λ a. marks p.codes old.span a ts) h.at
 
-steps_after : (p : Contents) (old : Sketch) (t : Report) (j : Sketch) (ts : List Report) → Hears p old t j → steps_within p.codes j.span j.at ts ≡ steps_within p.codes old.span (past p.codes old.at t) ts
+steps_after : (p : Contents) (old : Sketch) (t : Report) (j : Sketch) (ts : List Report)
+    → Hears p old t j → steps_within p.codes j.span j.at ts ≡ steps_within p.codes old.span (past p.codes old.at t) ts
 steps_after p old t j ts h = ap (λ s. steps_within p.codes s j.at ts) h.span ∙ ap (λ a. steps_within p.codes old.span a ts) h.at
 
 -- one more at the front
-one_more : (p : Contents) (old : Sketch) (t : Report) (j : Sketch) (ts : List Report) (new : Sketch) → Hears p old t j → Gains p j ts new → Gains p old (t ∷ ts) new
+one_more : (p : Contents) (old : Sketch) (t : Report) (j : Sketch) (ts : List Report) (new : Sketch)
+    → Hears p old t j → Gains p j ts new → Gains p old (t ∷ ts) new
 one_more p old t j ts new h g =
     record {
       rows = λ e. rows e;
@@ -72,9 +76,11 @@ all : (p : Contents) (ts : List Report) (old new : Sketch) → FoldsTo (Hears p)
 all p [] old new h = subst (λ s. Gains p old [] s) h (none p old)
 all p (t ∷ ts) old new h = one_more p old t h.0 ts new h.1 (all p ts h.0 new h.2)
 
-of_its_span : (p : Contents) (ts : List Report) (old new : Sketch) → old.at ≡ before_all → old.steps ≡ 0 → old.rows.items ≡ [] → Gains p old ts new → IsOf p.codes old.span ts new
+of_its_span : (p : Contents) (ts : List Report) (old new : Sketch)
+    → old.at ≡ before_all → old.steps ≡ 0 → old.rows.items ≡ [] → Gains p old ts new → IsOf p.codes old.span ts new
 of_its_span p ts old new at none_before blank g =
-    let at_start : steps_within p.codes old.span old.at ts ≡ steps_within p.codes old.span before_all ts = ap (λ a. steps_within p.codes old.span a ts) at in
+    let at_start : steps_within p.codes old.span old.at ts ≡ steps_within p.codes old.span before_all ts =
+    ap (λ a. steps_within p.codes old.span a ts) at in
     record {
       few = λ e. (
         g.rows e ∙ ap (λ (m : List Mark). m ++ marks p.codes old.span old.at ts) blank ∙ ap (λ a. marks p.codes old.span a ts) at,
@@ -84,6 +90,7 @@ of_its_span p ts old new at none_before blank g =
     }
 
 -- a blank sketch that was told of these steps
-pub is_of : (p : Contents) (span : Span) (ts : List Report) (old new : Sketch) → IsBlank span old → FoldsTo (Hears p) old ts new → IsOf p.codes span ts new
+pub is_of : (p : Contents) (span : Span) (ts : List Report) (old new : Sketch)
+    → IsBlank span old → FoldsTo (Hears p) old ts new → IsOf p.codes span ts new
 is_of p span ts old new b h =
     subst (λ (s : Span). IsOf p.codes s ts new) b.span (of_its_span p ts old new b.at b.steps b.rows (all p ts old new h))

@@ -67,9 +67,11 @@ three : (h f d n : List ℕ) → h ++ f ++ d ++ n ≡ h ++ (f ++ d ++ n)
 three h f d n = ap (λ (t : List ℕ). t ++ n) (append_assoc h f d) ∙ append_assoc h (f ++ d) n
 
 -- a block's text, in which so many words are taken of those that were asked for
-pub block_text : (file ldu taken asked : ℕ) → block_start file ldu ++ decimal taken ++ block_end asked ≡ codes " | " ++ doing_text (doing.InBlock file ldu taken asked)
+pub block_text : (file ldu taken asked : ℕ)
+    → block_start file ldu ++ decimal taken ++ block_end asked ≡ codes " | " ++ doing_text (doing.InBlock file ldu taken asked)
 block_text file ldu taken asked =
-    append_assoc (block_start file ldu) (decimal taken) (block_end asked) ∙ ap (λ t. block_start file ldu ++ t) (sym (three (decimal taken) (codes " of ") (decimal asked) (codes " data words")))
+    append_assoc (block_start file ldu) (decimal taken) (block_end asked)
+    ∙ ap (λ t. block_start file ldu ++ t) (sym (three (decimal taken) (codes " of ") (decimal asked) (codes " data words")))
 
 where_true : (t : Bool) (x : List ℕ) → t ≡ true → cond t x [] ≡ x
 where_true true x e = refl
@@ -81,23 +83,29 @@ where_false true x e = absurd (cc e)
 
 -- a line by the reason why its word is free and by its form
 abbrev line_by : Contents → ℕ → Implied → Entry → Option Freedom → Option Form → List ℕ
-line_by p n k e why x = line_head n e ++ reason_or_text why (form_or_other_text p.codes x (other_text p.codes e.bus e.word)) ++ after_text p k e.bus e.word why x ++ codes "\n"
+line_by p n k e why x =
+    line_head n e ++ reason_or_text why (form_or_other_text p.codes x (other_text p.codes e.bus e.word))
+    ++ after_text p k e.bus e.word why x ++ codes "\n"
 
 pub no_line : (p : Contents) (n : ℕ) (k : Implied) (e : Entry) → has_line p.codes e ≡ false → line_of p n k e ≡ []
 no_line p n k e h = where_false (has_line p.codes e) (line_by p n k e (freedom_of p.codes e.bus e.word) (form_of p.codes e.bus e.word)) h
 
-some_line : (p : Contents) (n : ℕ) (k : Implied) (e : Entry) → has_line p.codes e ≡ true → line_of p n k e ≡ line_by p n k e (freedom_of p.codes e.bus e.word) (form_of p.codes e.bus e.word)
+some_line : (p : Contents) (n : ℕ) (k : Implied) (e : Entry)
+    → has_line p.codes e ≡ true → line_of p n k e ≡ line_by p n k e (freedom_of p.codes e.bus e.word) (form_of p.codes e.bus e.word)
 some_line p n k e h = where_true (has_line p.codes e) (line_by p n k e (freedom_of p.codes e.bus e.word) (form_of p.codes e.bus e.word)) h
 
 pub free_line : (p : Contents) (n : ℕ) (k : Implied) (e : Entry) → has_line p.codes e ≡ true → is_free p.codes e.bus e.word ≡ true
     → line_of p n k e ≡ line_head n e ++ (free_text p.codes e.bus e.word (freedom_of p.codes e.bus e.word) ++ codes "\n")
-free_line p n k e h free = some_line p n k e h ∙ by (freedom_of p.codes e.bus e.word) (form_of p.codes e.bus e.word) ((some_where_free p.codes e.bus e.word).1 ((is_free-decides p.codes e.bus e.word).0 free))
+free_line p n k e h free = some_line p n k e h ∙ by (freedom_of p.codes e.bus e.word) (form_of p.codes e.bus e.word)
+    ((some_where_free p.codes e.bus e.word).1 ((is_free-decides p.codes e.bus e.word).0 free))
   where
-    by : (o : Option Freedom) (x : Option Form) → o ≢ None → line_by p n k e o x ≡ line_head n e ++ (free_text p.codes e.bus e.word o ++ codes "\n")
+    by : (o : Option Freedom) (x : Option Form)
+        → o ≢ None → line_by p n k e o x ≡ line_head n e ++ (free_text p.codes e.bus e.word o ++ codes "\n")
     by None x some = absurd (some refl)
     by (Some why) x some = three (line_head n e) (freedom_text why) (else_text p.codes e.bus e.word why) (codes "\n")
 
-pub allowed_line : (p : Contents) (n : ℕ) (k : Implied) (e : Entry) (x : Form) → has_line p.codes e ≡ true → freedom_of p.codes e.bus e.word ≡ None → form_of p.codes e.bus e.word ≡ Some x
+pub allowed_line : (p : Contents) (n : ℕ) (k : Implied) (e : Entry) (x : Form)
+    → has_line p.codes e ≡ true → freedom_of p.codes e.bus e.word ≡ None → form_of p.codes e.bus e.word ≡ Some x
     → line_of p n k e ≡ line_head n e ++ (form_text p.codes x ++ (codes " | " ++ doing_text (does p e.bus e.word x k.sink)) ++ codes "\n")
 allowed_line p n k e x h free is =
     some_line p n k e h
@@ -107,7 +115,8 @@ allowed_line p n k e x h free is =
 
 -- an entry's bus and word after its time, byte by byte
 pub entry_bytes : (w : ℕ) (bus : Bus) (letter hex time : List ℕ) → letter ≡ bus_text bus → hex ≡ hex_text w
-    → time ++ 32 ∷ get_or letter 0 0 ∷ 32 ∷ get_or hex 0 0 ∷ get_or hex 1 0 ∷ get_or hex 2 0 ∷ get_or hex 3 0 ∷ get_or hex 4 0 ∷ get_or hex 5 0 ∷ get_or hex 6 0 ∷ get_or hex 7 0 ∷ 32 ∷ []
+    → time ++ 32 ∷ get_or letter 0 0 ∷ 32 ∷ get_or hex 0 0 ∷ get_or hex 1 0 ∷ get_or hex 2 0 ∷ get_or hex 3 0 ∷ get_or hex 4 0
+    ∷ get_or hex 5 0 ∷ get_or hex 6 0 ∷ get_or hex 7 0 ∷ 32 ∷ []
     ≡ time ++ 32 ∷ [] ++ bus_text bus ++ 32 ∷ [] ++ hex_text w ++ 32 ∷ []
 unfolding numeral
 entry_bytes w A letter hex time e1 e2 = rw (e1, e2) (simp append_assoc)
@@ -116,18 +125,22 @@ entry_bytes w B letter hex time e1 e2 = rw (e1, e2) (simp append_assoc)
 -- ---- one more entry
 
 -- a free word changes nothing
-pub goes_free : (p : Contents) (e : Entry) (old new : Trace) → is_free p.codes e.bus e.word ≡ true → new.entries ≡ min (old.entries + 1) (2 ^ 64 - 1) → new.sink ≡ old.sink → new.files.items ≡ old.files.items → GoesOn p e old new
+pub goes_free : (p : Contents) (e : Entry) (old new : Trace) → is_free p.codes e.bus e.word ≡ true
+    → new.entries ≡ min (old.entries + 1) (2 ^ 64 - 1) → new.sink ≡ old.sink → new.files.items ≡ old.files.items → GoesOn p e old new
 goes_free p e old new free entries sink files =
     let none = free_none p.codes e.bus e.word free in
     record {
       allowed = inl free;
       entries = entries;
       sink = sink ∙ ap (λ (x : Option Form). implies_form p e.bus e.word x old.sink) (sym none);
-      files = files ∙ sym (append-nil old.files.items) ∙ ap (λ (x : Option Form). old.files.items ++ crossings_by p e.bus e.word x old.sink) (sym none);
+      files = files ∙ sym (append-nil old.files.items)
+          ∙ ap (λ (x : Option Form). old.files.items ++ crossings_by p e.bus e.word x old.sink) (sym none);
     }
 
-pub goes_form : (p : Contents) (e : Entry) (x : Form) (old new : Trace) → form_of p.codes e.bus e.word ≡ Some x → AllowsForm (observer_of old.sink) e.bus (Some x) → new.entries ≡ min (old.entries + 1) (2 ^ 64 - 1)
-    → new.sink ≡ implies_form p e.bus e.word (Some x) old.sink → new.files.items ≡ old.files.items ++ crossings_of (does p e.bus e.word x old.sink.sink) → GoesOn p e old new
+pub goes_form : (p : Contents) (e : Entry) (x : Form) (old new : Trace) → form_of p.codes e.bus e.word ≡ Some x
+    → AllowsForm (observer_of old.sink) e.bus (Some x) → new.entries ≡ min (old.entries + 1) (2 ^ 64 - 1)
+    → new.sink ≡ implies_form p e.bus e.word (Some x) old.sink
+    → new.files.items ≡ old.files.items ++ crossings_of (does p e.bus e.word x old.sink.sink) → GoesOn p e old new
 goes_form p e x old new is allowed entries sink files = record {
   allowed = inr (subst (AllowsForm (observer_of old.sink) e.bus) (sym is) allowed);
   entries = entries;
@@ -136,6 +149,7 @@ goes_form p e x old new is allowed entries sink files = record {
 }
 
 -- a word that is not free is allowed by its form alone
-pub by_form_alone : (p : Contents) (e : Entry) (k : Implied) (x : Option Form) → is_free p.codes e.bus e.word ≡ false → form_of p.codes e.bus e.word ≡ x → (AllowsForm (observer_of k) e.bus x → ⊥) → Allows p (observer_of k) (seen_of e) → ⊥
+pub by_form_alone : (p : Contents) (e : Entry) (k : Implied) (x : Option Form) → is_free p.codes e.bus e.word ≡ false
+    → form_of p.codes e.bus e.word ≡ x → (AllowsForm (observer_of k) e.bus x → ⊥) → Allows p (observer_of k) (seen_of e) → ⊥
 by_form_alone p e k x kept is never (inl free) = absurd (cc (kept, free))
 by_form_alone p e k x kept is never (inr a) = never (subst (AllowsForm (observer_of k) e.bus) is a)

@@ -142,7 +142,8 @@ loaded_text : (c : Codes) (row : Option UnitRow) (number : UnitNumber) (unit : L
 loaded_text c None number unit reports = refl
 loaded_text c (Some r) number unit reports = refl
 
-gone_all : (c : Codes) (row : Option UnitRow) (reports : List Report) → gone c row reports ++ line_before (kept c row reports) ≡ all_text c row reports
+gone_all : (c : Codes) (row : Option UnitRow) (reports : List Report)
+    → gone c row reports ++ line_before (kept c row reports) ≡ all_text c row reports
 gone_all c None [] = sym (append-nil columns_text)
 gone_all c (Some r) [] = sym (append-nil (unit_line r))
 gone_all c row (Loads number unit ∷ reports) =
@@ -159,7 +160,8 @@ abbrev ended_after : Codes → UnitRow → List LoadedUnit → List ℕ
 ended_after c r [] = []
 ended_after c r (u ∷ units) = unit_line r ++ flat_map (λ v. unit_line (row_of c v)) (ended_units (u ∷ units))
 
-ended_after-is : (c : Codes) (u : LoadedUnit) (units : List LoadedUnit) → ended_after c (row_of c u) units ≡ flat_map (λ v. unit_line (row_of c v)) (ended_units (u ∷ units))
+ended_after-is : (c : Codes) (u : LoadedUnit) (units : List LoadedUnit)
+    → ended_after c (row_of c u) units ≡ flat_map (λ v. unit_line (row_of c v)) (ended_units (u ∷ units))
 ended_after-is c u [] = refl
 ended_after-is c u (v ∷ units) = refl
 
@@ -171,16 +173,19 @@ begun_after c number unit reports text h =
     h ∙ ap (λ (r : UnitRow). ended_after c r (loaded_units reports)) (row-is c number unit (before_load reports))
     ∙ ended_after-is c (record { number = number; unit = unit; steps = before_load reports }) (loaded_units reports)
 
-gone_after : (c : Codes) (r : UnitRow) (reports : List Report) → gone c (Some r) reports ≡ ended_after c (with_steps c (before_load reports) r) (loaded_units reports)
+gone_after : (c : Codes) (r : UnitRow) (reports : List Report)
+    → gone c (Some r) reports ≡ ended_after c (with_steps c (before_load reports) r) (loaded_units reports)
 gone_after c r [] = refl
 gone_after c r (Loads number unit ∷ reports) =
-    ap (λ (t : List ℕ). unit_line r ++ t) (begun_after c number unit reports (gone c (Some (begun c number unit)) reports) (gone_after c (begun c number unit) reports))
+    ap (λ (t : List ℕ). unit_line r ++ t)
+    (begun_after c number unit reports (gone c (Some (begun c number unit)) reports) (gone_after c (begun c number unit) reports))
 gone_after c r (Makes act entry ∷ reports) = gone_after c (with_step c (Makes act entry) r) reports
 
 gone_ended : (c : Codes) (reports : List Report) → gone c None reports ≡ ended_text c reports
 gone_ended c [] = refl
 gone_ended c (Loads number unit ∷ reports) =
-    ap (λ (t : List ℕ). columns_text ++ t) (begun_after c number unit reports (gone c (Some (begun c number unit)) reports) (gone_after c (begun c number unit) reports))
+    ap (λ (t : List ℕ). columns_text ++ t)
+    (begun_after c number unit reports (gone c (Some (begun c number unit)) reports) (gone_after c (begun c number unit) reports))
 gone_ended c (Makes act entry ∷ reports) = gone_ended c reports
 
 -- ---- what rows that are told of a run put
@@ -192,12 +197,15 @@ module _ {W : Type 0} (contents : W → Option (List ℕ)) (p : Contents) where
     pub row : new.row ≡ kept p.codes old.row reports
 
   heard_rows : (old new : UnitRows W) (reports : List Report) → FoldsTo (HearsRows contents p) old reports new → HasPut old new reports
-  heard_rows old new [] h = subst (λ (n : UnitRows W). HasPut old n []) h (record { puts = Appends-nil (paged contents old.out old.page); row = refl })
+  heard_rows old new [] h =
+      subst (λ (n : UnitRows W). HasPut old n []) h (record { puts = Appends-nil (paged contents old.out old.page); row = refl })
   heard_rows old new (Loads number unit ∷ reports) h =
       let next = heard_rows h.0 new reports h.2 in
       let row = h.1.1 in
       record {
-        puts = Appends-trans _ _ _ _ _ h.1.0 (subst (λ (r : Option UnitRow). PutsOn contents h.0.out h.0.page new.out new.page (gone p.codes r reports)) row next.puts);
+        puts =
+            Appends-trans _ _ _ _ _ h.1.0
+            (subst (λ (r : Option UnitRow). PutsOn contents h.0.out h.0.page new.out new.page (gone p.codes r reports)) row next.puts);
         row = next.row ∙ ap (λ (r : Option UnitRow). kept p.codes r reports) row;
       }
   heard_rows old new (Makes act entry ∷ reports) h =
@@ -206,17 +214,20 @@ module _ {W : Type 0} (contents : W → Option (List ℕ)) (p : Contents) where
       record { puts = next.puts; row = next.row }
 
 -- rows of which none was begun, told of a run and finished: the names of the columns, and the rows of its units
-pub all_rows : {W : Type 0} (contents : W → Option (List ℕ)) (p : Contents) (old new : UnitRows W) (reports : List Report) (end : Option (List ℕ))
+pub all_rows : {W : Type 0} (contents : W → Option (List ℕ)) (p : Contents) (old new : UnitRows W) (reports : List Report)
+    (end : Option (List ℕ))
     → old.row ≡ None → FoldsTo (HearsRows contents p) old reports new → Appends (paged contents new.out new.page) end (line_before new.row)
     → Appends (paged contents old.out old.page) end (units_text p.codes reports)
 all_rows contents p old new reports end fresh heard last =
     let h = heard_rows contents p old new reports heard in
     let text : gone p.codes old.row reports ++ line_before new.row ≡ units_text p.codes reports =
-    ap (λ (r : Option UnitRow). gone p.codes old.row reports ++ line_before r) h.row ∙ gone_all p.codes old.row reports ∙ ap (λ (r : Option UnitRow). all_text p.codes r reports) fresh in
+    ap (λ (r : Option UnitRow). gone p.codes old.row reports ++ line_before r) h.row ∙ gone_all p.codes old.row reports
+    ∙ ap (λ (r : Option UnitRow). all_text p.codes r reports) fresh in
     subst (Appends (paged contents old.out old.page) end) text (Appends-trans _ _ _ _ _ h.puts last)
 
 -- rows of which none was begun, told of steps, where all that waits is put: what is written of the units that have ended
-pub ended_put : {W : Type 0} (contents : W → Option (List ℕ)) (p : Contents) (old new : UnitRows W) (reports : List Report) (end : Option (List ℕ))
+pub ended_put : {W : Type 0} (contents : W → Option (List ℕ)) (p : Contents) (old new : UnitRows W) (reports : List Report)
+    (end : Option (List ℕ))
     → old.row ≡ None → FoldsTo (HearsRows contents p) old reports new → Appends (paged contents new.out new.page) end []
     → Appends (paged contents old.out old.page) end (ended_text p.codes reports)
 ended_put contents p old new reports end fresh heard last =

@@ -16,7 +16,10 @@ use Rattle.a429_view.specs.UnitSteps.{line_before, PutsInPart, TriesRows, AreRow
 
 -- what waits and what has gone out, as a sheet of output
 abbrev sheet_of : {W : Type 0} → UnitRows W → Sheet W
-sheet_of rows = record { out = record { ref_ptr = (0, 0); ghost_name = 0; now = rows.out }; page = record { ref_ptr = (0, 0); ghost_name = 0; now = rows.page } }
+sheet_of rows = record {
+  out = record { ref_ptr = (0, 0); ghost_name = 0; now = rows.out };
+  page = record { ref_ptr = (0, 0); ghost_name = 0; now = rows.page };
+}
 
 module _ {W : Type 0} (contents : W → Option (List ℕ)) where
   as_said : (a b : UnitRows W) (x : List ℕ) → PutsInPart contents a b x → Says contents (sheet_of a) (sheet_of b) x
@@ -25,7 +28,8 @@ module _ {W : Type 0} (contents : W → Option (List ℕ)) where
   of_said : (a b : UnitRows W) (x : List ℕ) → Says contents (sheet_of a) (sheet_of b) x → PutsInPart contents a b x
   of_said a b x (said h) = record { all = h.all; prefix = h.prefix; stays = h.stays }
 
-  pub part_both : (a b c : UnitRows W) (x y : List ℕ) → PutsInPart contents a b x → PutsInPart contents b c y → PutsInPart contents a c (x ++ y)
+  pub part_both : (a b c : UnitRows W) (x y : List ℕ)
+      → PutsInPart contents a b x → PutsInPart contents b c y → PutsInPart contents a c (x ++ y)
   part_both a b c x y h g = of_said a c (x ++ y) (as_said a b x h ▹ as_said b c y g)
 
   part_none : (a : UnitRows W) → PutsInPart contents a a []
@@ -47,7 +51,9 @@ module _ {W : Type 0} (contents : W → Option (List ℕ)) where
         rows = (old.row ∷ next.rows.0, ap (λ (t : List ℕ). line_before old.row ++ t) next.rows.1);
       }
   tried p old new (Makes act entry ∷ reports) h =
-      let next = tried p (record old { row = h.0.row }) new reports (subst (λ (r : UnitRows W). FoldsTo (TriesRows contents p) r reports new) h.1 h.2) in
+      let next =
+      tried p (record old { row = h.0.row }) new reports
+      (subst (λ (r : UnitRows W). FoldsTo (TriesRows contents p) r reports new) h.1 h.2) in
       record {
         text = next.text;
         part = record { all = next.part.all; prefix = next.part.prefix; stays = next.part.stays };
@@ -56,4 +62,9 @@ module _ {W : Type 0} (contents : W → Option (List ℕ)) where
 
 -- the line of one more row
 pub rows_more : (text : List ℕ) (row : Option UnitRow) → AreRowLines text → AreRowLines (text ++ line_before row)
-rows_more text row h = (h.0 ++ row ∷ [], ap (λ (t : List ℕ). t ++ line_before row) h.1 ∙ sym (flat_map-append line_before h.0 (row ∷ []) ∙ ap (λ (t : List ℕ). flat_map line_before h.0 ++ t) (append-nil (line_before row))))
+rows_more text row h = (
+  h.0 ++ row ∷ [],
+  ap (λ (t : List ℕ). t ++ line_before row) h.1
+      ∙ sym (flat_map-append line_before h.0 (row ∷ [])
+      ∙ ap (λ (t : List ℕ). flat_map line_before h.0 ++ t) (append-nil (line_before row))),
+)

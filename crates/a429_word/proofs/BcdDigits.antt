@@ -37,7 +37,8 @@ decimal_of-more w k =
     let term : ℕ → ℕ = λ j. digit_of w (k - j) * 10 ^ j in
     let moved : (j : ℕ) → j < k → digit_of w (suc k - suc j) * 10 ^ suc j ≡ term j * 10 = λ j _.
     let e : suc k - suc j ≡ k - j = omega arith in
-    ap (λ i. digit_of w i * 10 ^ suc j) e ∙ ap (λ p. digit_of w (k - j) * p) (pow-suc 10 j) ∙ sym (mul_assoc (digit_of w (k - j)) (10 ^ j) 10) in
+    ap (λ i. digit_of w i * 10 ^ suc j) e ∙ ap (λ p. digit_of w (k - j) * p) (pow-suc 10 j)
+    ∙ sym (mul_assoc (digit_of w (k - j)) (10 ^ j) 10) in
     let tens = sum_below-same k (λ j. digit_of w (suc k - suc j) * 10 ^ suc j) (λ j. term j * 10) moved ∙ sum_below-tens k term in
     let first = sum_below-first k (λ j. digit_of w (suc k - j) * 10 ^ j) in
     let last : suc k - 0 ≡ suc k = omega arith in
@@ -80,7 +81,8 @@ last-digit n d small = omega arith
 fewer-digits : (n d k : ℕ) → d ≤ 9 → (n * 10 + d) / 10 ^ suc k ≡ n / 10 ^ k
 fewer-digits n d k small =
     let tens : (n * 10 + d) / 10 ≡ n = omega arith in
-    ap (λ p. (n * 10 + d) / p) (pow-suc 10 k ∙ mul_comm (10 ^ k) 10) ∙ sym (div-div-eq-div-mul (n * 10 + d) 10 (10 ^ k)) ∙ ap (λ m. m / 10 ^ k) tens
+    ap (λ p. (n * 10 + d) / p) (pow-suc 10 k ∙ mul_comm (10 ^ k) 10) ∙ sym (div-div-eq-div-mul (n * 10 + d) 10 (10 ^ k))
+    ∙ ap (λ m. m / 10 ^ k) tens
 
 AreDecimal-fewer : (w k : ℕ) → AreDecimal w (suc k) → AreDecimal w k
 AreDecimal-fewer w k all i first last = all i first (omega arith)

@@ -14,7 +14,8 @@ pub record IsTwosComplement (p code : ℕ) (raw : ℤ) : Type 0 where
   pub value : raw ≡ pos (code % p) -ℤ pos (p * (code / p))
 
 -- with the top bit, and without
-pub code-negative : (p k : ℕ) (raw : ℤ) → 0 < p → raw <ℤ pos 0 → neg_ℤ (pos p) ≤ℤ raw → pos k ≡ raw +ℤ pos (2 * p) → IsTwosComplement p k raw
+pub code-negative : (p k : ℕ) (raw : ℤ)
+    → 0 < p → raw <ℤ pos 0 → neg_ℤ (pos p) ≤ℤ raw → pos k ≡ raw +ℤ pos (2 * p) → IsTwosComplement p k raw
 code-negative p k raw some below low is =
     let least : p ≤ k = omega (arith, ints) in
     let most : k < 2 * p = omega (arith, ints) in
@@ -33,17 +34,20 @@ code-positive p k raw is high =
     record { within = omega arith; value = rw (q, r, mul-zero) (omega (arith, ints)) }
 
 -- the data field's upper s + 1 bits are the part and the top bit
-upper : (w s t code : ℕ) → t + s ≡ 18 → field_of w ≡ code * 2 ^ t → (w / 2 ^ (10 + t) % 2 ^ s ≡ code % 2 ^ s) × (w / 2 ^ 28 % 2 ≡ code / 2 ^ s)
+upper : (w s t code : ℕ)
+    → t + s ≡ 18 → field_of w ≡ code * 2 ^ t → (w / 2 ^ (10 + t) % 2 ^ s ≡ code % 2 ^ s) × (w / 2 ^ 28 % 2 ≡ code / 2 ^ s)
 upper w s t code e field =
     let x = w / 2 ^ (10 + t) in
     let above : x % 2 ^ (1 + s) ≡ code = field_of-above w t (1 + s) (omega arith) ∙ ap (λ n. n / 2 ^ t) field ∙ shl-shr code t in
     let place : 10 + t + s ≡ 28 = omega arith in (
       sym (mod-mod-pow x 1 s) ∙ ap (λ n. n % 2 ^ s) above,
-      ap (λ n. w / 2 ^ n % 2) (sym place) ∙ ap (λ n. n % 2) (sym (shr-shr w (10 + t) s)) ∙ sym (nat_field_of x 1 s) ∙ ap (λ n. n / 2 ^ s) above,
+      ap (λ n. w / 2 ^ n % 2) (sym place) ∙ ap (λ n. n % 2) (sym (shr-shr w (10 + t) s)) ∙ sym (nat_field_of x 1 s)
+          ∙ ap (λ n. n / 2 ^ s) above,
     )
 
 -- a word whose field is these bits, moved up, has the raw number
-pub raw-made : (w s code : ℕ) (raw : ℤ) → 1 ≤ s → s ≤ 18 → IsTwosComplement (2 ^ s) code raw → field_of w ≡ code * 2 ^ (18 - s) → (raw_of w s ≡ raw) × (number_at w 11 (18 - s) ≡ 0)
+pub raw-made : (w s code : ℕ) (raw : ℤ) → 1 ≤ s → s ≤ 18 → IsTwosComplement (2 ^ s) code raw → field_of w ≡ code * 2 ^ (18 - s)
+    → (raw_of w s ≡ raw) × (number_at w 11 (18 - s) ≡ 0)
 raw-made w s code raw h1 h2 is field =
     let parts = upper w s (18 - s) code (omega arith) field in
     let first : 29 - s ≡ suc (10 + (18 - s)) = omega arith in
@@ -55,7 +59,8 @@ pub pow_at_most : (s : ℕ) → s ≤ 18 → 2 ^ s ≤ 262144
 pow_at_most s h = pow-le-pow_right {n = 2} (omega arith) h
 
 -- these bits fit into the field
-pub code-room : (s code : ℕ) → s ≤ 18 → code < 2 * 2 ^ s → (code * 2 ^ (18 - s) < 524288) × (code * 2 ^ (18 - s) % 4294967296 ≡ code * 2 ^ (18 - s))
+pub code-room : (s code : ℕ)
+    → s ≤ 18 → code < 2 * 2 ^ s → (code * 2 ^ (18 - s) < 524288) × (code * 2 ^ (18 - s) % 4294967296 ≡ code * 2 ^ (18 - s))
 code-room s code h small =
     let up : s + 1 + (18 - s) ≡ 19 = omega arith in
     let below : code < 2 ^ (s + 1) = rw (pow-add 2 s 1) (omega arith) in

@@ -17,7 +17,8 @@ masked_data w s h1 h2 =
     let e : 1 * 2 ^ s % 2 ^ 32 ≡ 2 ^ s = one_shl s 32 (omega arith) in
     rw e (masked_from w (29 - s) (28 - s) s (omega arith))
 
-pub data-is : (n w s : ℕ) (d : ℤ) → 1 ≤ s → s ≤ 18 → n ≡ w → d ≡ to_z w32 (bit_and (n / 2 ^ (28 - s)) (1 * 2 ^ s % 4294967296 - 1)) → d ≡ to_z w32 (number_at w (29 - s) s)
+pub data-is : (n w s : ℕ) (d : ℤ) → 1 ≤ s → s ≤ 18 → n ≡ w → d ≡ to_z w32 (bit_and (n / 2 ^ (28 - s)) (1 * 2 ^ s % 4294967296 - 1))
+    → d ≡ to_z w32 (number_at w (29 - s) s)
 data-is n w s d h1 h2 e is = is ∙ ap (to_z w32) (masked_data n s h1 h2 ∙ ap (λ x. number_at x (29 - s) s) e)
 
 -- how large the numbers get
@@ -28,7 +29,8 @@ bounds w s h1 h2 =
 
 -- where the sign is 1, and where it is 0
 pub negative : (q p b m : ℕ) (d : ℤ) → p ≤ 262144 → q < p → b ≡ 1 → m ≡ p → d ≡ to_z w32 q →
-    FitsSigned w32 (to_z w32 (of_z w32 d) -ℤ to_z w32 m) × (to_z w32 (of_z w32 (to_z w32 (of_z w32 d) -ℤ to_z w32 m)) ≡ pos q -ℤ pos (p * b))
+    FitsSigned w32 (to_z w32 (of_z w32 d) -ℤ to_z w32 m)
+    × (to_z w32 (of_z w32 (to_z w32 (of_z w32 d) -ℤ to_z w32 m)) ≡ pos q -ℤ pos (p * b))
 negative q p b m d hp hq eb em ed = rw (eb, em, ed, mul-one) (omega (arith, ints), omega (arith, ints))
 
 pub positive : (q p b : ℕ) (d : ℤ) → p ≤ 262144 → q < p → b ≡ 0 → d ≡ to_z w32 q → to_z w32 (of_z w32 d) ≡ pos q -ℤ pos (p * b)
@@ -67,18 +69,23 @@ field_split : (w s t : ℕ) → 1 ≤ s → t + s ≡ 18 → field_of w ≡ bit 
 field_split w s t h e =
     let x = w / 2 ^ 10 in
     let place : 29 - s ≡ suc (10 + t) = omega arith in
-    let part : number_at w (29 - s) s ≡ x / 2 ^ t % 2 ^ s = ap (λ f. number_at w f s) place ∙ number_at-is w (10 + t) s ∙ ap (λ n. n % 2 ^ s) (sym (shr-shr w 10 t)) in
+    let part : number_at w (29 - s) s ≡ x / 2 ^ t % 2 ^ s =
+    ap (λ f. number_at w f s) place ∙ number_at-is w (10 + t) s ∙ ap (λ n. n % 2 ^ s) (sym (shr-shr w 10 t)) in
     let low : number_at w 11 t ≡ x % 2 ^ t = number_at-is w 10 t in
     let below : x % 2 ^ (s + t) ≡ (x / 2 ^ t % 2 ^ s) * 2 ^ t + x % 2 ^ t = mod-pow-add x s t in
     let count : s + t ≡ 18 = omega arith in
     let whole : x % 2 ^ 19 ≡ (x / 2 ^ 18 % 2 ^ 1) * 2 ^ 18 + x % 2 ^ 18 = mod-pow-add x 1 18 in
     let sign : x / 2 ^ 18 ≡ w / 2 ^ 28 = shr-shr w 10 18 in
     number_at-is w 10 19 ∙ whole ∙ ap (λ n. n % 2 ^ 1 * 2 ^ 18 + x % 2 ^ 18) sign
-    ∙ ap (λ n. bit w 29 * 2 ^ 18 + n) (ap (λ n. x % 2 ^ n) (sym count) ∙ below ∙ ap (λ n. n * 2 ^ t + x % 2 ^ t) (sym part) ∙ ap (λ n. number_at w (29 - s) s * 2 ^ t + n) (sym low))
+    ∙ ap (λ n. bit w 29 * 2 ^ 18 + n) (ap (λ n. x % 2 ^ n) (sym count) ∙ below ∙ ap (λ n. n * 2 ^ t + x % 2 ^ t) (sym part)
+    ∙ ap (λ n. number_at w (29 - s) s * 2 ^ t + n) (sym low))
 
-pub field_from_raw : (v w s : ℕ) → 1 ≤ s → s ≤ 18 → raw_of v s ≡ raw_of w s → number_at v 11 (18 - s) ≡ number_at w 11 (18 - s) → field_of v ≡ field_of w
+pub field_from_raw : (v w s : ℕ)
+    → 1 ≤ s → s ≤ 18 → raw_of v s ≡ raw_of w s → number_at v 11 (18 - s) ≡ number_at w 11 (18 - s) → field_of v ≡ field_of w
 field_from_raw v w s h1 h2 raw rest =
-    let same = same_parts (2 ^ s) (number_at v (29 - s) s) (bit v 29) (number_at w (29 - s) s) (bit w 29) (bounds v s h1 h2).1 (bounds w s h1 h2).1 (bit_at-lt v 28) (bit_at-lt w 28) raw in
+    let same =
+    same_parts (2 ^ s) (number_at v (29 - s) s) (bit v 29) (number_at w (29 - s) s) (bit w 29) (bounds v s h1 h2).1 (bounds w s h1 h2).1
+    (bit_at-lt v 28) (bit_at-lt w 28) raw in
     let total : 18 - s + s ≡ 18 = omega arith in
     field_split v s (18 - s) h1 total
     ∙ ap (λ n. n * 2 ^ 18 + (number_at v (29 - s) s * 2 ^ (18 - s) + number_at v 11 (18 - s))) same.1

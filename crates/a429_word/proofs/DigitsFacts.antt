@@ -34,16 +34,20 @@ eight_bytes (a ∷ b ∷ c ∷ d ∷ e ∷ f ∷ []) long = absurd (omega arith)
 eight_bytes (a ∷ b ∷ c ∷ d ∷ e ∷ f ∷ g ∷ []) long = absurd (omega arith)
 
 -- four digits and four are eight
-pub eight_hex : (letters : Letters) (text : List ℕ) (w : ℕ) → length text ≡ 8 → AreDigits letters (first_four text) → AreDigits letters (next_four text)
+pub eight_hex : (letters : Letters) (text : List ℕ) (w : ℕ)
+    → length text ≡ 8 → AreDigits letters (first_four text) → AreDigits letters (next_four text)
     → w ≡ digits_value 16 (first_four text) * 65536 + digits_value 16 (next_four text)
     → IsHexWord text × (letters ≡ Upper → AreUpper text) × (w ≡ digits_value 16 text)
 eight_hex letters text w long high low is =
     let all : AllDigits 16 (first_four text ++ next_four text) = (high.0.0, (high.0.1.0, (high.0.1.1.0, (high.0.1.1.1.0, low.0)))) in
-    let upper : letters ≡ Upper → AreUpper (first_four text ++ next_four text) = λ u. let h = high.1 u in (h.0, (h.1.0, (h.1.1.0, (h.1.1.1.0, low.1 u)))) in
-    subst (λ (t : List ℕ). IsHexWord t × (letters ≡ Upper → AreUpper t) × (w ≡ digits_value 16 t)) (eight_bytes text long) ((refl, all), upper, omega arith)
+    let upper : letters ≡ Upper → AreUpper (first_four text ++ next_four text) = λ u. let h = high.1 u in
+    (h.0, (h.1.0, (h.1.1.0, (h.1.1.1.0, low.1 u)))) in
+    subst (λ (t : List ℕ). IsHexWord t × (letters ≡ Upper → AreUpper t) × (w ≡ digits_value 16 t)) (eight_bytes text long)
+    ((refl, all), upper, omega arith)
 
 -- and eight are four and four
-pub eight_halves : (letters : Letters) (text : List ℕ) → IsHexWord text → (letters ≡ Upper → AreUpper text) → AreDigits letters (first_four text) × AreDigits letters (next_four text)
+pub eight_halves : (letters : Letters) (text : List ℕ)
+    → IsHexWord text → (letters ≡ Upper → AreUpper text) → AreDigits letters (first_four text) × AreDigits letters (next_four text)
 eight_halves letters text hex upper =
     let is = sym (eight_bytes text hex.0) in
     let all = subst (λ (t : List ℕ). AllDigits 16 t) is hex.1 in
@@ -85,7 +89,8 @@ AllDigits-numeral (suc k) w =
 digits_value-hex_text : (w : ℕ) → w < 2 ^ 32 → digits_value 16 (hex_text w) ≡ w
 unfolding numeral
 digits_value-hex_text w h =
-    let value : (k : ℕ) → digit_value (digit_glyph true (w / 16 ^ k % 16)) ≡ w / 16 ^ k % 16 = λ k. digit_value-digit_glyph (w / 16 ^ k % 16) (omega arith) in
+    let value : (k : ℕ)
+    → digit_value (digit_glyph true (w / 16 ^ k % 16)) ≡ w / 16 ^ k % 16 = λ k. digit_value-digit_glyph (w / 16 ^ k % 16) (omega arith) in
     rw (value 7, value 6, value 5, value 4, value 3, value 2, value 1, value 0) (omega arith)
 
 pub hex_text-read : (w : ℕ) (read : Option ℕ) → w < 2 ^ 32 → ReadsHex (hex_text w) read → read ≡ Some w
@@ -118,7 +123,9 @@ eight_glyphs a b c d e f g h all upper =
 -- eight digits in upper case are the text of the word that they write
 pub hex_text-read_upper : (text : List ℕ) (w : ℕ) → IsHexWord text → AreUpper text → w ≡ digits_value 16 text → text ≡ hex_text w
 hex_text-read_upper text w hex upper is =
-    let same = subst (λ (t : List ℕ). AllDigits 16 t → AreUpper t → hex_text (digits_value 16 t) ≡ t) (eight_bytes text hex.0) (eight_glyphs _ _ _ _ _ _ _ _) hex.1 upper in
+    let same =
+    subst (λ (t : List ℕ). AllDigits 16 t → AreUpper t → hex_text (digits_value 16 t) ≡ t) (eight_bytes text hex.0)
+    (eight_glyphs _ _ _ _ _ _ _ _) hex.1 upper in
     sym same ∙ ap hex_text (sym is)
 
 glyph_upper : (d : ℕ) → d < 16 → digit_glyph true d ≤ 70

@@ -28,7 +28,8 @@ numeral-last zero n =
     ap (λ d. digit_glyph true d ∷ []) low ∙ ap (λ c. c ∷ []) (sym (digit_glyph-low (n % 10) (omega arith)))
 numeral-last (suc k) n =
     let quotient : n / 10 ^ suc k ≡ n / 10 / 10 ^ k = ap (λ x. n / x) (pow-succ' 10 k) ∙ sym (div-div-eq-div-mul n 10 (10 ^ k)) in
-    ap (λ q. digit_glyph true (q % 10) ∷ numeral 10 (suc k) n) quotient ∙ ap (λ t. digit_glyph true (n / 10 / 10 ^ k % 10) ∷ t) (numeral-last k n)
+    ap (λ q. digit_glyph true (q % 10) ∷ numeral 10 (suc k) n) quotient
+    ∙ ap (λ t. digit_glyph true (n / 10 / 10 ^ k % 10) ∷ t) (numeral-last k n)
 
 -- no digits
 pub numeral-none : (k n : ℕ) (text : List ℕ) → k ≡ 0 → text ≡ numeral 10 k n ++ text
@@ -50,9 +51,11 @@ numeral-cut (suc i) j n =
     ∙ ap (λ t. digit_glyph true (n / 10 ^ j / 10 ^ i % 10) ∷ t) (numeral-cut i j n)
 
 -- the last digits go in front of what is there
-pub numeral-moved : (i j k n : ℕ) (text : List ℕ) → k ≡ i + j → numeral 10 k n ++ text ≡ numeral 10 i (n / 10 ^ j) ++ (numeral 10 j n ++ text)
+pub numeral-moved : (i j k n : ℕ) (text : List ℕ)
+    → k ≡ i + j → numeral 10 k n ++ text ≡ numeral 10 i (n / 10 ^ j) ++ (numeral 10 j n ++ text)
 numeral-moved i j k n text e =
-    ap (λ m. numeral 10 m n ++ text) e ∙ ap (λ t. t ++ text) (numeral-cut i j n) ∙ append_assoc (numeral 10 i (n / 10 ^ j)) (numeral 10 j n) text
+    ap (λ m. numeral 10 m n ++ text) e ∙ ap (λ t. t ++ text) (numeral-cut i j n)
+    ∙ append_assoc (numeral 10 i (n / 10 ^ j)) (numeral 10 j n) text
 
 pub length-numeral : (k n : ℕ) → length (numeral 10 k n) ≡ k
 unfolding numeral
@@ -72,7 +75,8 @@ AllDigits-push ds n h =
 pub AllDigits-numeral_after : (xs : List ℕ) (k n : ℕ) → AllDigits 10 xs → AllDigits 10 (xs ++ numeral 10 k n)
 AllDigits-numeral_after xs zero n h = rw (numeral-empty n, append-nil) h
 AllDigits-numeral_after xs (suc k) n h =
-    rw (numeral-last k n, ← append_assoc xs (numeral 10 k (n / 10)) ((48 + n % 10) ∷ [])) (AllDigits-push (xs ++ numeral 10 k (n / 10)) n (AllDigits-numeral_after xs k (n / 10) h))
+    rw (numeral-last k n, ← append_assoc xs (numeral 10 k (n / 10)) ((48 + n % 10) ∷ []))
+    (AllDigits-push (xs ++ numeral 10 k (n / 10)) n (AllDigits-numeral_after xs k (n / 10) h))
 
 mod-next : (k n : ℕ) → n % 10 ^ suc k ≡ (n / 10) % 10 ^ k * 10 + n % 10
 mod-next k n =
@@ -115,9 +119,11 @@ one_before (suc k) n h =
     let front : m / 10 ≡ 10 ^ k + low = omega arith in
     let last : m % 10 ≡ n % 10 = omega arith in
     let step : decimal m ≡ decimal (m / 10) ++ (48 + m % 10) ∷ [] = decimal_step_wide m (omega arith) (omega arith) in
-    ap decimal is ∙ step ∙ rw (front, last) (ap (λ t. t ++ (48 + n % 10) ∷ []) (one_before k (n / 10) (omega arith)) ∙ ap (λ t. 49 ∷ t) (sym (numeral-last k n)))
+    ap decimal is ∙ step
+    ∙ rw (front, last) (ap (λ t. t ++ (48 + n % 10) ∷ []) (one_before k (n / 10) (omega arith)) ∙ ap (λ t. 49 ∷ t) (sym (numeral-last k n)))
 
-pub one_and_part : (k rest one part : ℕ) → k ≤ 18 → one ≡ 10 ^ k → part ≡ rest % one → (decimal (one + part) ≡ 49 ∷ numeral 10 k rest) × (one + part < 2 ^ 64) × (0 < one)
+pub one_and_part : (k rest one part : ℕ)
+    → k ≤ 18 → one ≡ 10 ^ k → part ≡ rest % one → (decimal (one + part) ≡ 49 ∷ numeral 10 k rest) × (one + part < 2 ^ 64) × (0 < one)
 one_and_part k rest one part h e is =
     let most = tens_le k h in
     let some = pow-10_pos k in
@@ -126,7 +132,8 @@ one_and_part k rest one part h e is =
     (ap decimal same ∙ one_before k rest h, omega arith, omega arith)
 
 -- the text that starts behind the 1
-pub behind_one : (bytes digits text : List ℕ) (start : ℕ) → drop start bytes ≡ (49 ∷ digits) ++ text → drop (start + 1) bytes ≡ digits ++ text
+pub behind_one : (bytes digits text : List ℕ) (start : ℕ)
+    → drop start bytes ≡ (49 ∷ digits) ++ text → drop (start + 1) bytes ≡ digits ++ text
 behind_one bytes digits text start e = sym (drop-drop 1 start bytes) ∙ ap (drop 1) e
 
 -- the last digit is not 0
@@ -145,13 +152,15 @@ EndsWell-numeral (suc k) n h =
 
 -- the last digit goes in front of what stands there
 pub decimal-moves : (n : ℕ) (text : List ℕ) → 10 ≤ n → n < 2 ^ 128 → decimal (n / 10) ++ ((48 + n % 10) ∷ text) ≡ decimal n ++ text
-decimal-moves n text more fits = sym (ap (λ t. t ++ text) (decimal_step_wide n more (omega arith)) ∙ append_assoc (decimal (n / 10)) ((48 + n % 10) ∷ []) text)
+decimal-moves n text more fits =
+    sym (ap (λ t. t ++ text) (decimal_step_wide n more (omega arith)) ∙ append_assoc (decimal (n / 10)) ((48 + n % 10) ∷ []) text)
 
 pub length-decimal : (n : ℕ) → n < 2 ^ 128 → length (decimal n) ≤ 39
 length-decimal n fits = length-decimal-le_wide 39 n (omega arith) (omega arith) (omega arith)
 
 -- room for what is left of a number, and for a byte more
-pub room : (n rest : ℕ) (text old : List ℕ) → n < 2 ^ 128 → rest ≤ n → length old ≤ 32 → decimal rest ++ text ≡ decimal n ++ old → length (decimal rest) + length text < 72
+pub room : (n rest : ℕ) (text old : List ℕ)
+    → n < 2 ^ 128 → rest ≤ n → length old ≤ 32 → decimal rest ++ text ≡ decimal n ++ old → length (decimal rest) + length text < 72
 room n rest text old fits less short e =
     omega (arith, ap length e, length-decimal n fits, length-append (decimal rest) text, length-append (decimal n) old)
 
@@ -181,5 +190,6 @@ IsWhole-decimal n fits = (decimal_by_steps_wide (λ m ds. IsWholePart ds × (0 <
     one : (m : ℕ) → m < 10 → IsWholePart ((48 + m) ∷ []) × (0 < m → BeginsWell ((48 + m) ∷ []))
     one m h = (tt, λ some. rw (digit_is m h) (omega arith))
 
-    more : (m : ℕ) (ds : List ℕ) → 10 ≤ m → IsWholePart ds × (0 < m / 10 → BeginsWell ds) → IsWholePart (ds ++ (48 + m % 10) ∷ []) × (0 < m → BeginsWell (ds ++ (48 + m % 10) ∷ []))
+    more : (m : ℕ) (ds : List ℕ) → 10 ≤ m → IsWholePart ds × (0 < m / 10 → BeginsWell ds)
+        → IsWholePart (ds ++ (48 + m % 10) ∷ []) × (0 < m → BeginsWell (ds ++ (48 + m % 10) ∷ []))
     more m ds h is = let first = is.1 (omega arith) in (IsWhole-push ds (48 + m % 10) first, λ _. BeginsWell-push ds (48 + m % 10) first)

@@ -34,7 +34,8 @@ value-append xs ys = split 0 xs ys ∙ value_after (digits_value 10 xs) ys
     split a (u ∷ us) vs = split (a * 10 + digit_value u) us vs
 
 -- digits of one length with one value are the same
-same_digits : (xs ys : List ℕ) → AllDigits 10 xs → AllDigits 10 ys → length xs ≡ length ys → digits_value 10 xs ≡ digits_value 10 ys → xs ≡ ys
+same_digits : (xs ys : List ℕ)
+    → AllDigits 10 xs → AllDigits 10 ys → length xs ≡ length ys → digits_value 10 xs ≡ digits_value 10 ys → xs ≡ ys
 same_digits [] [] h k e v = refl
 same_digits [] (y ∷ ys) h k e v = absurd (omega arith)
 same_digits (x ∷ xs) [] h k e v = absurd (omega arith)
@@ -60,7 +61,8 @@ above (x ∷ y ∷ ys) h w =
     (omega arith, λ k. rw (value-cons x (y ∷ ys), shorter) (omega arith))
 
 -- so of two whole parts with one value none is the longer
-no_longer : (xs ys : List ℕ) → AllDigits 10 xs → AllDigits 10 ys → IsWholePart xs → IsWholePart ys → digits_value 10 xs ≡ digits_value 10 ys → length xs < length ys → ⊥
+no_longer : (xs ys : List ℕ) → AllDigits 10 xs → AllDigits 10 ys → IsWholePart xs → IsWholePart ys → digits_value 10 xs ≡ digits_value 10 ys
+    → length xs < length ys → ⊥
 no_longer xs ys hx hy wx wy e lt =
     let ux = digits_value-lt 10 xs hx in
     let low = (above ys hy wy).1 (omega (arith, (above xs hx wx).0)) in
@@ -96,7 +98,8 @@ no_more v w n d p q ev ew lt =
     let k = q - p - 1 in
     let up : q ≡ p + (1 + k) = omega arith in
     let powers : 10 ^ q ≡ 10 ^ p * (10 * 10 ^ k) = ap (λ x. 10 ^ x) up ∙ pow-add 10 p (1 + k) ∙ ap (λ x. 10 ^ p * x) (pow-add 10 1 k) in
-    let same : w * 10 ^ d ≡ v * (10 * 10 ^ k) * 10 ^ d = ew ∙ ap (λ x. n * x) powers ∙ sym (mul_assoc n (10 ^ p) (10 * 10 ^ k)) ∙ ap (λ x. x * (10 * 10 ^ k)) (sym ev)
+    let same : w * 10 ^ d ≡ v * (10 * 10 ^ k) * 10 ^ d =
+    ew ∙ ap (λ x. n * x) powers ∙ sym (mul_assoc n (10 ^ p) (10 * 10 ^ k)) ∙ ap (λ x. x * (10 * 10 ^ k)) (sym ev)
     ∙ mul_assoc v (10 ^ d) (10 * 10 ^ k) ∙ ap (λ x. v * x) (mul_comm (10 ^ d) (10 * 10 ^ k)) ∙ sym (mul_assoc v (10 * 10 ^ k) (10 ^ d)) in
     let is : w ≡ v * (10 * 10 ^ k) = cancel w (v * (10 * 10 ^ k)) (10 ^ d) (pow-10_pos d) same in
     let tens : w ≡ (v * 10 ^ k) * 10 = is ∙ grind arith in
@@ -115,20 +118,25 @@ one_spelling a b n d s t =
     let v = digits_value 10 (t.whole ++ t.part) in
     let p = length s.part in
     let q = length t.part in
-    let not_less : p < q → ⊥ = λ lt. ends t.whole t.part t.digits t.trailing (omega arith) (no_more u v (unsigned_abs n) d p q s.value t.value lt) in
-    let not_more : q < p → ⊥ = λ lt. ends s.whole s.part s.digits s.trailing (omega arith) (no_more v u (unsigned_abs n) d q p t.value s.value lt) in
+    let not_less : p < q → ⊥ =
+    λ lt. ends t.whole t.part t.digits t.trailing (omega arith) (no_more u v (unsigned_abs n) d p q s.value t.value lt) in
+    let not_more : q < p → ⊥ =
+    λ lt. ends s.whole s.part s.digits s.trailing (omega arith) (no_more v u (unsigned_abs n) d q p t.value s.value lt) in
     let long : p ≡ q = omega arith in
     let same : u ≡ v = cancel u v (10 ^ d) (pow-10_pos d) (s.value ∙ ap (λ x. unsigned_abs n * 10 ^ x) long ∙ sym t.value) in
     let ds = AllDigits-split s.whole s.part s.digits in
     let dt = AllDigits-split t.whole t.part t.digits in
     let ls : digits_value 10 s.part < 10 ^ p = digits_value-lt 10 s.part ds.1 in
     let lt : digits_value 10 t.part < 10 ^ p = rw long (digits_value-lt 10 t.part dt.1) in
-    let parts = same_from_place (digits_value 10 s.whole) (digits_value 10 s.part) (digits_value 10 t.whole) (digits_value 10 t.part) (10 ^ p) ls lt
-    (sym (value-append s.whole s.part) ∙ same ∙ value-append t.whole t.part ∙ ap (λ x. digits_value 10 t.whole * 10 ^ x + digits_value 10 t.part) (sym long)) in
+    let parts =
+    same_from_place (digits_value 10 s.whole) (digits_value 10 s.part) (digits_value 10 t.whole) (digits_value 10 t.part) (10 ^ p) ls lt
+    (sym (value-append s.whole s.part) ∙ same ∙ value-append t.whole t.part
+    ∙ ap (λ x. digits_value 10 t.whole * 10 ^ x + digits_value 10 t.part) (sym long)) in
     let part = same_digits s.part t.part ds.1 dt.1 long parts.1 in
     let less = no_longer s.whole t.whole ds.0 dt.0 s.leading t.leading parts.0 in
     let more = no_longer t.whole s.whole dt.0 ds.0 t.leading s.leading (sym parts.0) in
     let whole_long : length s.whole ≡ length t.whole = omega arith in
     let whole = same_digits s.whole t.whole ds.0 dt.0 whole_long parts.0 in
     let minus = same_sign s.minus t.minus (n <ℤ pos 0) s.sign t.sign in
-    s.layout ∙ ap (λ m. sign_text m ++ (s.whole ++ with_point s.part)) minus ∙ ap (λ w. sign_text t.minus ++ (w ++ with_point s.part)) whole ∙ ap (λ x. sign_text t.minus ++ (t.whole ++ with_point x)) part ∙ sym t.layout
+    s.layout ∙ ap (λ m. sign_text m ++ (s.whole ++ with_point s.part)) minus ∙ ap (λ w. sign_text t.minus ++ (w ++ with_point s.part)) whole
+    ∙ ap (λ x. sign_text t.minus ++ (t.whole ++ with_point x)) part ∙ sym t.layout

@@ -28,7 +28,8 @@ no_low_bits (suc k) n h =
     ap (λ x. n % 2 ^ x) up ∙ mod-pow-add n 1 k ∙ rw (low, h k (omega arith)) (omega arith)
 
 -- a number has as many factors of 2 as its lowest bits are 0
-pub lowest_one : (n : ℕ) → n < 2 ^ 128 → count_trailing_zeros 128 n < 128 → (n % 2 ^ count_trailing_zeros 128 n ≡ 0) × (n / 2 ^ count_trailing_zeros 128 n % 2 ≡ 1)
+pub lowest_one : (n : ℕ) → n < 2 ^ 128 → count_trailing_zeros 128 n < 128
+    → (n % 2 ^ count_trailing_zeros 128 n ≡ 0) × (n / 2 ^ count_trailing_zeros 128 n % 2 ≡ 1)
 lowest_one zero fits h = absurd (omega (arith, trailing_of_zero 128))
 lowest_one (suc m) fits h =
     let bits = bit_at-trailing_zeros w128 (suc m) (omega arith) fits in
@@ -46,7 +47,8 @@ odd_ends n p rest odd parts tens =
     omega arith
 
 -- as many twos as fives are as many tens
-pub tens_dropped : (n rest zeros d : ℕ) → zeros ≤ d → n % 2 ^ zeros ≡ 0 → n / 2 ^ zeros ≡ rest * 5 ^ zeros → n ≡ rest * 10 ^ (d - (d - zeros))
+pub tens_dropped : (n rest zeros d : ℕ)
+    → zeros ≤ d → n % 2 ^ zeros ≡ 0 → n / 2 ^ zeros ≡ rest * 5 ^ zeros → n ≡ rest * 10 ^ (d - (d - zeros))
 tens_dropped n rest zeros d less twos parts =
     let two = 2 ^ zeros in
     let five = 5 ^ zeros in

@@ -27,7 +27,8 @@ value_or_none-is Either b = grind (arith, nat_tests)
 value_or_none-is Upper b = grind (arith, nat_tests)
 
 -- and what a table of that has at it
-pub tabulated-is : (letters : Letters) (b i : ℕ) → b < 256 → i ≡ b → IsHexValue letters b (get_or (tabulated (value_or_none letters) 0 256) i 0)
+pub tabulated-is : (letters : Letters) (b i : ℕ)
+    → b < 256 → i ≡ b → IsHexValue letters b (get_or (tabulated (value_or_none letters) 0 256) i 0)
 tabulated-is letters b i small is =
     let at = tabulated-at (value_or_none letters) 256 i (omega arith) ∙ ap (value_or_none letters) is in
     rw at (value_or_none-is letters b)

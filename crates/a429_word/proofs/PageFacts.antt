@@ -13,10 +13,13 @@ take-written a n xs ys rest h size =
     ∙ ap (λ t. take a xs ++ t) (ap (λ m. take m (ys ++ rest)) (sym size) ∙ take-append_seam ys rest)
 
 -- and where all of it is put back in place of the first len bytes
-pub take-refilled : (a n len : ℕ) (xs ys rest tail : List ℕ) → a + n ≤ len → a ≤ length xs → length ys ≡ n → take (a + n) (take len ((take a xs ++ (ys ++ rest)) ++ tail)) ≡ take a xs ++ ys
+pub take-refilled : (a n len : ℕ) (xs ys rest tail : List ℕ)
+    → a + n ≤ len → a ≤ length xs → length ys ≡ n → take (a + n) (take len ((take a xs ++ (ys ++ rest)) ++ tail)) ≡ take a xs ++ ys
 take-refilled a n len xs ys rest tail room h size =
-    let long : a + n ≤ length (take a xs ++ (ys ++ rest)) = omega (arith, size, length-take-le a xs h, length-append (take a xs) (ys ++ rest), length-append ys rest) in
-    take-take (a + n) len ((take a xs ++ (ys ++ rest)) ++ tail) room ∙ take-append-le (a + n) (take a xs ++ (ys ++ rest)) tail long ∙ take-written a n xs ys rest h size
+    let long : a + n ≤ length (take a xs ++ (ys ++ rest)) =
+    omega (arith, size, length-take-le a xs h, length-append (take a xs) (ys ++ rest), length-append ys rest) in
+    take-take (a + n) len ((take a xs ++ (ys ++ rest)) ++ tail) room ∙ take-append-le (a + n) (take a xs ++ (ys ++ rest)) tail long
+    ∙ take-written a n xs ys rest h size
 
 -- the same, of the first of what is written
 pub take-begun : (a count n len : ℕ) (xs ys rest tail : List ℕ) → count ≤ n → a + n ≤ len → a ≤ length xs → length ys ≡ n
@@ -29,8 +32,13 @@ take-begun a count n len xs ys rest tail few room h size =
     ∙ take-append-add (take a xs) ys count
 
 -- a front of what follows the whole page
-pub AppendsPrefix-behind : (a b c : Option (List ℕ)) (page bytes : List ℕ) → Keeps (append_known a page) b → AppendsPrefix b c bytes → AppendsPrefix a c (page ++ bytes)
-AppendsPrefix-behind a b c page bytes put front = (length page + front.0, omega (arith, length-append page bytes, front.1), rw (take-append-add page bytes front.0) (joined a b c page (take front.0 bytes) put front.2))
+pub AppendsPrefix-behind : (a b c : Option (List ℕ)) (page bytes : List ℕ)
+    → Keeps (append_known a page) b → AppendsPrefix b c bytes → AppendsPrefix a c (page ++ bytes)
+AppendsPrefix-behind a b c page bytes put front = (
+  length page + front.0,
+  omega (arith, length-append page bytes, front.1),
+  rw (take-append-add page bytes front.0) (joined a b c page (take front.0 bytes) put front.2),
+)
   where
     joined : (a b c : Option (List ℕ)) (xs ys : List ℕ) → Keeps (append_known a xs) b → Appends b c ys → Appends a c (xs ++ ys)
     joined None b c xs ys put more = tt
@@ -56,6 +64,7 @@ pub AppendsPrefix-longer : (a b : Option (List ℕ)) (text more : List ℕ) → 
 AppendsPrefix-longer a b text more h = (h.0, omega (arith, h.1, length-append text more), rw (take-append-le h.0 text more h.1) h.2)
 
 -- whether all was written or not, a prefix was
-pub AppendsPrefix-either : {T E : Type 0} (a b : Option (List ℕ)) (r : Result T E) (text : List ℕ) → OnOk r (Appends a b text) → OnErr r (AppendsPrefix a b text) → AppendsPrefix a b text
+pub AppendsPrefix-either : {T E : Type 0} (a b : Option (List ℕ)) (r : Result T E) (text : List ℕ)
+    → OnOk r (Appends a b text) → OnErr r (AppendsPrefix a b text) → AppendsPrefix a b text
 AppendsPrefix-either a b (Ok x) text ok err = AppendsPrefix-whole a b text ok
 AppendsPrefix-either a b (Err e) text ok err = err

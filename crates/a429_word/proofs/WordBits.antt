@@ -26,7 +26,8 @@ number_at-is w first zero = omega arith
 number_at-is w first (suc k) =
     let low = number_at-is w first k in
     let place : suc first + k - 1 ≡ first + k = omega arith in
-    let split : w / 2 ^ first % 2 ^ (1 + k) ≡ (w / 2 ^ first / 2 ^ k % 2) * 2 ^ k + w / 2 ^ first % 2 ^ k = mod-pow-add (w / 2 ^ first) 1 k in
+    let split : w / 2 ^ first % 2 ^ (1 + k) ≡ (w / 2 ^ first / 2 ^ k % 2) * 2 ^ k + w / 2 ^ first % 2 ^ k =
+    mod-pow-add (w / 2 ^ first) 1 k in
     let one : 1 + k ≡ suc k = omega arith in
     rw (place, low, ← shr-shr w first k, ← one, split) (omega arith)
 
@@ -46,7 +47,8 @@ masked_from w from before count e = masked w before count ∙ ap (λ f. number_a
 pub field_of-above : (w t count : ℕ) → count + t ≡ 19 → w / 2 ^ (10 + t) % 2 ^ count ≡ field_of w / 2 ^ t
 field_of-above w t count e =
     let v = w / 2 ^ 10 in
-    ap (λ x. x % 2 ^ count) (sym (shr-shr w 10 t)) ∙ sym (nat_field_of v count t) ∙ ap (λ n. v % 2 ^ n / 2 ^ t) e ∙ ap (λ x. x / 2 ^ t) (sym (number_at-is w 10 19))
+    ap (λ x. x % 2 ^ count) (sym (shr-shr w 10 t)) ∙ sym (nat_field_of v count t) ∙ ap (λ n. v % 2 ^ n / 2 ^ t) e
+    ∙ ap (λ x. x / 2 ^ t) (sym (number_at-is w 10 19))
 
 -- its bits below a number that was moved up are 0
 pub field_of-below : (w p t : ℕ) → t ≤ 19 → field_of w ≡ p * 2 ^ t → number_at w 11 t ≡ 0
@@ -54,7 +56,8 @@ field_of-below w p t h field =
     let v = w / 2 ^ 10 in
     let whole : 19 - t + t ≡ 19 = omega arith in
     let moved : v % 2 ^ 19 ≡ p * 2 ^ t + 0 = sym (number_at-is w 10 19) ∙ field ∙ sym (add-zero (p * 2 ^ t)) in
-    number_at-is w 10 t ∙ sym (mod-mod-pow v (19 - t) t) ∙ ap (λ n. v % 2 ^ n % 2 ^ t) whole ∙ ap (λ x. x % 2 ^ t) moved ∙ mod_low p t 0 (pow_pos t)
+    number_at-is w 10 t ∙ sym (mod-mod-pow v (19 - t) t) ∙ ap (λ n. v % 2 ^ n % 2 ^ t) whole ∙ ap (λ x. x % 2 ^ t) moved
+    ∙ mod_low p t 0 (pow_pos t)
 
 -- ---- the small fields
 
@@ -114,7 +117,8 @@ ones_below (suc k) n h =
 
 -- the parity, by all ones
 pub parity-counted : (n : ℕ) → n < 2 ^ 32 → ones n % 2 ≡ count_of_ones n % 2
-parity-counted n h = ap (λ s. s % 2) (ones_below 32 n h ∙ sum_below-same 32 (bit_at n) (λ j. bit n (j + 1)) (λ j hj. ap (bit_at n) (omega arith)))
+parity-counted n h =
+    ap (λ s. s % 2) (ones_below 32 n h ∙ sum_below-same 32 (bit_at n) (λ j. bit n (j + 1)) (λ j hj. ap (bit_at n) (omega arith)))
 
 -- ---- numbers and bits
 
@@ -150,7 +154,8 @@ made_of_bits (suc k) f h =
 -- a number below 2 ^ 32 is the sum of its bits
 pub number_of-bit : (w : ℕ) → w < 2 ^ 32 → number_of_bits (bit w) ≡ w
 number_of-bit w h =
-    let terms = sum_below-same 32 (λ j. bit w (j + 1) * 2 ^ j) (λ j. bit w (1 + j) * 2 ^ j) (λ j _. ap (λ i. bit w i * 2 ^ j) (omega arith)) in
+    let terms =
+    sum_below-same 32 (λ j. bit w (j + 1) * 2 ^ j) (λ j. bit w (1 + j) * 2 ^ j) (λ j _. ap (λ i. bit w i * 2 ^ j) (omega arith)) in
     let whole : w / 2 ^ 0 % 2 ^ 32 ≡ w = omega arith in
     terms ∙ number_at-is w 0 32 ∙ whole
 
@@ -164,14 +169,17 @@ bit-number_of bits h i first last =
 
 -- the lowest byte is the label, reversed
 low_byte : (w : ℕ) → w % 256 ≡ reverse_bits_onto 8 (label_of w) 0
-low_byte w = let small : w % 256 < 256 = omega arith in sym (ap (λ n. reverse_bits_onto 8 n 0) (sym (label-is w)) ∙ reversed_twice (w % 256) small)
+low_byte w =
+    let small : w % 256 < 256 = omega arith in sym (ap (λ n. reverse_bits_onto 8 n 0) (sym (label-is w)) ∙ reversed_twice (w % 256) small)
 
 -- the bits below the parity bit are those of the fields
-below_parity : (v w : ℕ) → v % 256 ≡ w % 256 → v / 256 % 4 ≡ w / 256 % 4 → v / 1024 % 524288 ≡ w / 1024 % 524288 → v / 536870912 % 4 ≡ w / 536870912 % 4 → v % 2147483648 ≡ w % 2147483648
+below_parity : (v w : ℕ) → v % 256 ≡ w % 256 → v / 256 % 4 ≡ w / 256 % 4 → v / 1024 % 524288 ≡ w / 1024 % 524288
+    → v / 536870912 % 4 ≡ w / 536870912 % 4 → v % 2147483648 ≡ w % 2147483648
 below_parity v w label sdi field ssm = omega arith
 
 -- the four fields are all that there is below the parity bit
-pub same_below_parity : (v w : ℕ) → label_of v ≡ label_of w → sdi_of v ≡ sdi_of w → field_of v ≡ field_of w → ssm_of v ≡ ssm_of w → v % 2147483648 ≡ w % 2147483648
+pub same_below_parity : (v w : ℕ)
+    → label_of v ≡ label_of w → sdi_of v ≡ sdi_of w → field_of v ≡ field_of w → ssm_of v ≡ ssm_of w → v % 2147483648 ≡ w % 2147483648
 same_below_parity v w label sdi field ssm = below_parity v w
     (low_byte v ∙ ap (λ n. reverse_bits_onto 8 n 0) label ∙ sym (low_byte w))
     (sym (number_at-is v 8 2) ∙ sdi ∙ number_at-is w 8 2)
@@ -179,9 +187,11 @@ same_below_parity v w label sdi field ssm = below_parity v w
     (sym (number_at-is v 29 2) ∙ ssm ∙ number_at-is w 29 2)
 
 -- and with the parity bit they are all
-pub same_from_halves : (v w : ℕ) → v < 4294967296 → w < 4294967296 → v % 2147483648 ≡ w % 2147483648 → v / 2147483648 % 2 ≡ w / 2147483648 % 2 → v ≡ w
+pub same_from_halves : (v w : ℕ)
+    → v < 4294967296 → w < 4294967296 → v % 2147483648 ≡ w % 2147483648 → v / 2147483648 % 2 ≡ w / 2147483648 % 2 → v ≡ w
 same_from_halves v w hv hw low top = omega arith
 
 -- words that are alike in each part are one
 pub same_from_parts : (v w : ℕ) → v < 2 ^ 32 → w < 2 ^ 32 → SameParts v w → v ≡ w
-same_from_parts v w hv hw same = same_from_halves v w hv hw (same_below_parity v w same.fields.label same.fields.sdi same.fields.field same.fields.ssm) same.parity_bit
+same_from_parts v w hv hw same =
+    same_from_halves v w hv hw (same_below_parity v w same.fields.label same.fields.sdi same.fields.field same.fields.ssm) same.parity_bit

@@ -668,7 +668,7 @@ def _judged(text: str, certificate: Callable[[], bytes | None]) -> Verdict:
     verdict, *rest = text.split(maxsplit=1)
     if verdict == "YES":
         return Yes(_yes(text).files, certificate())
-    entry, why = rest[0].split()
+    entry, why = rest[0].splitlines()[0].split()
     return Impossible(int(entry), why) if verdict == "IMPOSSIBLE" else Unexplained(int(entry), why)
 
 

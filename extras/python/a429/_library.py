@@ -14,7 +14,7 @@ YES, IMPOSSIBLE, UNEXPLAINED, INPUT, MEMORY = range(5)
 REASONS = {
     0: "",
     1: "NoForm", 2: "NotGranted", 3: "WrongAnswer", 4: "BadBlock", 5: "WrongNumber", 6: "OtherBlock", 7: "NoRun",
-    11: "NeverWhole", 12: "NotOneBlock", 13: "NotReplayed",
+    11: "NeverWhole", 12: "NotOneBlock", 13: "NotReplayed", 14: "OutOfSteps",
     21: "version", 22: "line", 23: "not allowed", 24: "state differs", 25: "word differs", 26: "unfinished",
 }  # fmt: skip
 

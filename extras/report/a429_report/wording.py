@@ -40,6 +40,7 @@ REASONS = {
     "NotOneBlock": "The attempts up to the next acknowledgement do not carry one and the same block.",
     "NeverWhole": "No attempt to send this block was recorded whole.",
     "NotReplayed": "Each block is there, but the steps between them do not fit at this entry.",
+    "OutOfSteps": "The search was cut short at the attempt that begins with this entry.",
 }
 # What a word is to the transfer, by its kind in `survey`.
 KINDS = {

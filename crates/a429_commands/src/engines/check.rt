@@ -1,6 +1,6 @@
 //! `a429 check PROFILE REC CERT`: finds a certificate for a recording, or says why there is none; and `a429 decide`,
-//! which does the same, tests whether words contradict each other, and, where `check` has a doubt, searches for a run and then
-//! compares attempts to send one unit.
+//! which does the same, tests whether words contradict each other, and searches for a run, or for the first word at which none
+//! goes on.
 
 ghost use Rattle.std.specs.Prelude.{◌≡◌, ◌↔◌, [], true, false, Ok, IsErr, IfOk, IfErr, OnOk, OnErr};
 ghost use Rattle.std.specs.Fmt.{decimal};
@@ -12,7 +12,7 @@ ghost use Rattle.a429_commands.specs.Ends.{EndsWithFile, HasGained, heard, unhea
 ghost use Rattle.a429_commands.specs.Fault.{ComesBy};
 ghost use Rattle.a429_commands.specs.Output.{output};
 ghost use Rattle.a429_commands.specs.Recording.{IsReadFault};
-ghost use Rattle.a429_commands.specs.Check.{reason_text, doubt_text, verdict_text, verdict_status, certificate_of, of_check, of_verdicts, IsVerdictBy, IsVerdictOn, IsVerdictUnder, LeavesCertificate};
+ghost use Rattle.a429_commands.specs.Check.{reason_text, doubt_text, verdict_text, verdict_status, certificate_of, note_text, of_check, of_told, IsEarliest, IsToldBy, IsToldOn, IsToldUnder, IsVerdictBy, LeavesCertificate};
 
 use crate::engines::profile::profile_of;
 use crate::engines::recording::entries_of;
@@ -23,7 +23,7 @@ use a429_cert::OutOfMemory;
 use a429_explain::{Certificate, Doubt, Reason, Verdict, check};
 use a429_profile::Profile;
 use a429_record::Entry;
-use a429_search::decide;
+use a429_search::{begins_a_run, decide};
 use a429_view::put_explained;
 use a429_word::{Device, Page, Sheet, Tally};
 use std::alloc::Global;
@@ -44,10 +44,11 @@ pub fn run_check<R: Read, C: Write, W: Write>(
     run_by_rule(alloc, profile, rec, cert, out, Rule::Check)
 }
 
-/// Does what `run_check` does, with three differences. A recording is impossible, too, from the first word on that contradicts
-/// what was recorded before it. Where `check` has a doubt, and no word contradicts, it searches for a run; where it finds
-/// one the recording is explained. Where the search finds none, the recording is impossible, by `NoRun`, if attempts to send
-/// one link data unit are found that no unit has.
+/// Does what `run_check` does, with these differences. A recording is impossible, too, from the first word on that contradicts
+/// what was recorded before it, or from an earlier one on, by `NoRun`, at which a search finds that no run goes on. Where `check`
+/// has a doubt, and there is no such word, the run that the search finds explains the recording. And of an entry that is
+/// impossible it is looked whether the words before it are those of a run, so that no earlier entry is impossible. Where that is
+/// not found a second line says so.
 pub fn run_decide<R: Read, C: Write, W: Write>(
     alloc: Global,
     profile: &[u8],
@@ -71,8 +72,15 @@ pub fn run_by_rule<R: Read, C: Write, W: Write>(
 ) -> Result<u8, RunFault>
     ensures { EndsWithFile (output C.contents cert.old cert.new) (output W.contents out.old out.new) (of_check rule profile.now (heard R.remaining rec.old rec.new)) result }
 {
-    let verdict = verdict_on(alloc, profile, rec, rule)?;
-    write_found(alloc, cert, out, verdict)
+    let told = told_on(alloc, profile, rec, rule)?;
+    write_found(alloc, cert, out, told)
+}
+
+// A verdict, and whether a line after it says that the entries before an impossible one are not explained.
+#[derive(Drop)]
+struct Told {
+    verdict: Verdict,
+    has_note: bool,
 }
 
 // Writes the certificate of a verdict and then the verdict, and answers its status.
@@ -80,55 +88,90 @@ fn write_found<C: Write, W: Write>(
     alloc: Global,
     cert: &mut Tally<C>,
     out: &mut Tally<W>,
-    verdict: Verdict,
+    told: Told,
 ) -> Result<u8, RunFault>
-    ensures { EndsWithFile (output C.contents cert.old cert.new) (output W.contents out.old out.new) (of_verdicts (λ v. v ≡ verdict) (λ e. e ≡ RunFault.Memory)) result }
+    ensures { EndsWithFile (output C.contents cert.old cert.new) (output W.contents out.old out.new) (of_told (λ t. t ≡ told) (λ e. e ≡ RunFault.Memory)) result }
 {
     let page = Page::new(alloc)?;
-    write_certificate(page, cert, &verdict)?;
-    write_at_once(Ok(verdict), out)
+    write_certificate(page, cert, &told.verdict)?;
+    write_at_once(Ok(told), out)
 }
 
 // The verdict on a recording, by this rule.
-fn verdict_on<R: Read>(
+fn told_on<R: Read>(
     alloc: Global,
     profile: &[u8],
     rec: &mut Tally<R>,
     rule: Rule,
-) -> Result<Verdict, RunFault>
-    ensures verdict { IfOk result (IsVerdictOn rule profile.now (unread R.remaining rec.old)) }
+) -> Result<Told, RunFault>
+    ensures told { IfOk result (IsToldOn rule profile.now (unread R.remaining rec.old)) }
     ensures device { OnOk result (has_failed rec.new ≡ false) }
     ensures err { IfErr result (ComesBy (unheard_causes profile.now (heard R.remaining rec.old rec.new))) }
 {
     let profile = profile_of(alloc, profile)?;
-    let verdict = verdict_under(alloc, &profile, rec, rule);
+    let told = told_under(alloc, &profile, rec, rule);
     drop(profile);
-    verdict
+    told
 }
 
 // The same under a profile that was read.
-fn verdict_under<R: Read>(
+fn told_under<R: Read>(
     alloc: Global,
     profile: &Profile,
     rec: &mut Tally<R>,
     rule: Rule,
-) -> Result<Verdict, RunFault>
-    ensures verdict { IfOk result (IsVerdictUnder rule profile.now (unread R.remaining rec.old)) }
+) -> Result<Told, RunFault>
+    ensures told { IfOk result (IsToldUnder rule profile.now (unread R.remaining rec.old)) }
     ensures device { OnOk result (has_failed rec.new ≡ false) }
     ensures err { IfErr result (IsReadFault (unread R.remaining rec.old) (has_failed rec.new)) }
 {
     let entries = entries_of(alloc, rec)?;
-    found(verdict_by(alloc, profile, entries.as_slice(), rule))
+    found(told_by(alloc, profile, entries.as_slice(), rule))
 }
 
 // The verdict that was found, if memory sufficed.
-fn found(verdict: Result<Verdict, OutOfMemory>) -> Result<Verdict, RunFault>
-    ensures ok { IfOk result (λ v. verdict ≡ Ok v) }
+fn found(told: Result<Told, OutOfMemory>) -> Result<Told, RunFault>
+    ensures ok { IfOk result (λ t. told ≡ Ok t) }
     ensures err { IfErr result (λ e. e ≡ RunFault.Memory) }
 {
-    match verdict {
-        Ok(verdict) => Ok(verdict),
+    match told {
+        Ok(told) => Ok(told),
         Err(_) => Err(RunFault::Memory),
+    }
+}
+
+// The verdict on these entries, with a note or none. `check` does not look at the words before an entry.
+fn told_by(
+    alloc: Global,
+    profile: &Profile,
+    entries: &[Entry],
+    rule: Rule,
+) -> Result<Told, OutOfMemory>
+    ensures { IfOk result (IsToldBy rule profile.now (items_of entries.now)) }
+{
+    let verdict = verdict_by(alloc, profile, entries, rule)?;
+    let has_note = match rule {
+        Rule::Check => false,
+        Rule::Decide => !is_earliest(alloc, profile, entries, &verdict)?,
+    };
+    Ok(Told { verdict, has_note })
+}
+
+// No entry before the one that is impossible is so: the words before it are those of a run. `false` where that is not found.
+fn is_earliest(
+    alloc: Global,
+    profile: &Profile,
+    entries: &[Entry],
+    verdict: &Verdict,
+) -> Result<bool, OutOfMemory>
+    ensures { result ≡ Ok true → IsEarliest profile.now (items_of entries.now) verdict.now }
+{
+    match verdict {
+        Verdict::Impossible { entry, .. } if *entry <= entries.len() => {
+            begins_a_run(alloc, profile, &entries[..*entry])
+        }
+        Verdict::Impossible { .. } => Ok(false),
+        Verdict::Explained { .. } | Verdict::Unexplained { .. } => Ok(true),
     }
 }
 
@@ -179,17 +222,27 @@ fn write_text<W: Write>(
     sheet.finish()
 }
 
-impl Text for Verdict {
+impl Text for Told {
     ghost use Rattle.std.specs.Prelude.{◌≡◌};
-    ghost use Rattle.a429_commands.specs.Check.{verdict_status, verdict_text};
+    ghost use Rattle.a429_commands.specs.Check.{told_text, verdict_status};
 
-    ghost says = { λ v status text. (status ≡ verdict_status v) × (text ≡ verdict_text v) };
+    ghost says = { λ t status text. (status ≡ verdict_status t.verdict) × (text ≡ told_text t) };
 
-    ghost begins = { λ v text. text ≡ verdict_text v };
+    ghost begins = { λ t text. text ≡ told_text t };
 
     fn put<W: Write>(&self, sheet: &mut Sheet<'_, W>) -> u8 {
-        put_verdict(sheet, self);
-        status_of(self)
+        put_verdict(sheet, &self.verdict);
+        put_note(sheet, self.has_note);
+        status_of(&self.verdict)
+    }
+}
+
+// Puts the note, where there is one.
+fn put_note<W: Write>(sheet: &mut Sheet<'_, W>, has_note: bool)
+    ensures { Says W.contents sheet.old sheet.new (note_text has_note) }
+{
+    if has_note {
+        sheet.put(b"the entries before it are not explained\n");
     }
 }
 
@@ -253,5 +306,6 @@ fn name_of_doubt(doubt: Doubt) -> &'static [u8]
         Doubt::NeverWhole => b" NeverWhole\n",
         Doubt::NotOneBlock => b" NotOneBlock\n",
         Doubt::NotReplayed => b" NotReplayed\n",
+        Doubt::OutOfSteps => b" OutOfSteps\n",
     }
 }

@@ -14,7 +14,8 @@ invariant-loop-line l = record {
   inside : l.used ≤ length (items_of l.entries);
   profile : l.link.profile ≡ l.profile;
   none_left : l.link.state.sink.received.files ≡ [];
-  reached : Reaches l.profile l.head.first (take k (step_lines l.head.version l.certificate)) (take l.used (items_of l.entries)) (with_earlier l.files.items l.link.state);
+  reached : Reaches l.profile l.head.first (take k (step_lines l.head.version l.certificate)) (take l.used (items_of l.entries))
+      (with_earlier l.files.items l.link.state);
 }
 
 abbrev pub decreases-loop-line : goal.decreases-loop-line

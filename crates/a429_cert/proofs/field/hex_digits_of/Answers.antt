@@ -18,7 +18,8 @@ overflow_add-number c =
 
 pub loop-byte-preserved : goal.loop-byte-preserved
 loop-byte-preserved c =
-    read-more c.loop-byte.byte-index c.loop-byte.number c.in-Some.digit c.args.text.now (omega arith) c.loop-byte.invariant c.in-Some.ensures
+    read-more c.loop-byte.byte-index c.loop-byte.number c.in-Some.digit c.args.text.now
+    (omega arith) c.loop-byte.invariant c.in-Some.ensures
 
 pub returns-clause-value : goal.returns-clause-value
 returns-clause-value c = read-all c.loop-byte.byte-index c.loop-byte.number c.args.text.now (omega arith) c.loop-byte.invariant

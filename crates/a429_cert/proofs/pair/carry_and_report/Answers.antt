@@ -20,18 +20,21 @@ returns-in-Err-clause-refused g c =
     let w = c.args.replay.now in
     let text = read_as w.version (Some (sent_text c.args.next.place)) in
     subst (RefusesOver w.profile.now text (position w.link.state c.args.rec.now.to_come w.used) (w.lines + 1)) (sym c.of_read.ensures)
-    (sent_stops w.version c.args.next w.profile.now w.link.state w.used (w.lines + 1) c.args.rec.now.to_come c.in-Err.fault c.requires.word.1 c.requires.word.0 c.in-Err.ensures.fault)
+    (sent_stops w.version c.args.next w.profile.now w.link.state w.used
+    (w.lines + 1) c.args.rec.now.to_come c.in-Err.fault c.requires.word.1 c.requires.word.0 c.in-Err.ensures.fault)
 
 pub returns-then-not-is_word-clause-refused : goal.returns-then-not-is_word-clause-refused
 returns-then-not-is_word-clause-refused g c =
     let w = c.args.replay.now in
-    sent_differs w.version c.args.next w.profile.now w.link.state w.used (w.lines + 1) c.args.rec.now.to_come c.next_entry.new.rec.to_come (option_map seen_of c.in-Ok.entry) c.requires.word.1 c.requires.word.0
+    sent_differs w.version c.args.next w.profile.now w.link.state w.used (w.lines + 1) c.args.rec.now.to_come c.next_entry.new.rec.to_come
+    (option_map seen_of c.in-Ok.entry) c.requires.word.1 c.requires.word.0
     c.in-Ok.ensures.taken (λ e. absurd (cc (c.is_word.ensures.1 e, c.if-not-is_word.true)))
 
 pub returns-then-not-is_word-clause-given : goal.returns-then-not-is_word-clause-given
 returns-then-not-is_word-clause-given g c =
     let w = c.args.replay.now in
-    sent_given w.version c.args.next w.profile.now w.link.state (stream.Cert (of.WordDiffers (w.lines + 1) w.used)) c.args.rec.now.count c.next_entry.new.rec.count c.requires.word.1 c.requires.word.0
+    sent_given w.version c.args.next w.profile.now w.link.state
+    (stream.Cert (of.WordDiffers (w.lines + 1) w.used)) c.args.rec.now.count c.next_entry.new.rec.count c.requires.word.1 c.requires.word.0
     (most_given 1 c.in-Ok.entry c.args.rec.now.count c.next_entry.new.rec.count c.in-Ok.ensures.given)
 
 pub returns-in-Err-report_both-clause-given : goal.returns-in-Err-report_both-clause-given
@@ -40,10 +43,17 @@ returns-in-Err-report_both-clause-given g c =
     let old = c.args.rec.now.count in
     let new = c.next_entry.new.rec.count in
     sent_given w.version c.args.next w.profile.now w.link.state c.of_trouble.result old new c.requires.word.1 c.requires.word.0
-    (subst (λ f. GivesAtFault (◌≡◌ {A = ℕ} 1 1) f old new) (sym c.of_trouble.ensures) (trouble_given (◌≡◌ {A = ℕ} 1 1) c.in-Err-report_both.trouble old new (most_given 1 c.in-Ok.entry old new c.in-Ok.ensures.given)))
+    (subst (λ f. GivesAtFault (◌≡◌ {A = ℕ} 1 1) f old new) (sym c.of_trouble.ensures)
+    (trouble_given (◌≡◌ {A = ℕ} 1 1) c.in-Err-report_both.trouble old new (most_given 1 c.in-Ok.entry old new c.in-Ok.ensures.given)))
 
 pub returns-in-Err-clause-given : goal.returns-in-Err-clause-given
-returns-in-Err-clause-given g c = subst (λ f. GivesAtFault (WantsEntry c.args.replay.now.profile.now (read_as c.args.replay.now.version (Some (sent_text c.args.next.place))) c.args.replay.now.link.state) f c.args.rec.now.count c.next_entry.new.rec.count) (sym c.of_read.ensures) (none_given (WantsEntry c.args.replay.now.profile.now (read_as c.args.replay.now.version (Some (sent_text c.args.next.place))) c.args.replay.now.link.state) c.in-Err.fault c.args.rec.now.count c.next_entry.new.rec.count c.in-Err.ensures.none)
+returns-in-Err-clause-given g c =
+    subst (λ f.
+    GivesAtFault (WantsEntry c.args.replay.now.profile.now (read_as c.args.replay.now.version (Some (sent_text c.args.next.place)))
+    c.args.replay.now.link.state) f c.args.rec.now.count c.next_entry.new.rec.count)
+    (sym c.of_read.ensures)
+    (none_given (WantsEntry c.args.replay.now.profile.now (read_as c.args.replay.now.version (Some (sent_text c.args.next.place)))
+    c.args.replay.now.link.state) c.in-Err.fault c.args.rec.now.count c.next_entry.new.rec.count c.in-Err.ensures.none)
 
 pub returns-in-Err-clause-unreported : goal.returns-in-Err-clause-unreported
 returns-in-Err-clause-unreported g c = rw c.of_read.ensures (read_unreported c.args.listener.now c.in-Err.fault)
@@ -68,16 +78,20 @@ returns-in-Err-report_both-clause-refused g c =
     let w = c.args.replay.now in
     let text = read_as w.version (Some (sent_text c.args.next.place)) in
     let at = position w.link.state c.args.rec.now.to_come w.used in
-    subst (RefusesOver w.profile.now text at (w.lines + 1)) (sym c.of_trouble.ensures) (trouble_refuses w.profile.now text at (w.lines + 1) c.in-Err-report_both.trouble)
+    subst (RefusesOver w.profile.now text at (w.lines + 1)) (sym c.of_trouble.ensures)
+    (trouble_refuses w.profile.now text at (w.lines + 1) c.in-Err-report_both.trouble)
 
 pub returns-in-Err-report_both-clause-unreported : goal.returns-in-Err-report_both-clause-unreported
-returns-in-Err-report_both-clause-unreported g c = rw c.of_trouble.ensures (trouble_unreported c.args.listener.now c.report_both.new.listener c.in-Err-report_both.trouble)
+returns-in-Err-report_both-clause-unreported g c =
+    rw c.of_trouble.ensures (trouble_unreported c.args.listener.now c.report_both.new.listener c.in-Err-report_both.trouble)
 
 pub returns-in-Err-report_both-clause-device : goal.returns-in-Err-report_both-clause-device
-returns-in-Err-report_both-clause-device g c = λ e. c.in-Err-report_both.ensures.device (cc (trouble_device c.in-Err-report_both.trouble (cc (e, c.of_trouble.ensures))))
+returns-in-Err-report_both-clause-device g c =
+    λ e. c.in-Err-report_both.ensures.device (cc (trouble_device c.in-Err-report_both.trouble (cc (e, c.of_trouble.ensures))))
 
 pub returns-in-Err-report_both-clause-read : goal.returns-in-Err-report_both-clause-read
-returns-in-Err-report_both-clause-read g c = λ e. absurd (trouble_no_read c.in-Err-report_both.trouble read.Device (cc (e, c.of_trouble.ensures)))
+returns-in-Err-report_both-clause-read g c =
+    λ e. absurd (trouble_no_read c.in-Err-report_both.trouble read.Device (cc (e, c.of_trouble.ensures)))
 
 pub returns-in-Err-clause-tried : goal.returns-in-Err-clause-tried
 returns-in-Err-clause-tried g c = tries_none g.T.Listener.tries c.args.replay.now.profile.now c.args.listener.now

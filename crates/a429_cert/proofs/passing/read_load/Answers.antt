@@ -33,7 +33,8 @@ returns-in-Ok-Some-clause-refused c =
     IfErr-weaker c.read_unit.result
     (λ f. (at : At) → at.line ≡ c.args.n → (s : State) → RefusesLine c.args.profile.now (Load c.in-Ok-Some.line) at s f)
     (λ f. (s : State) → RefusesFirst c.args.profile.now (Some (76 ∷ c.args.text.now)) c.args.n s f)
-    (λ f h s at here z. fault-read c.args.profile.now s at.next at.line at.entry (76 ∷ c.args.text.now) (Load c.in-Ok-Some.line) f (spells c) tt (h at here s z)) c.read_unit.ensures.refused
+    (λ f h s at here z. fault-read c.args.profile.now s at.next at.line at.entry (76 ∷ c.args.text.now) (Load c.in-Ok-Some.line) f
+    (spells c) tt (h at here s z)) c.read_unit.ensures.refused
 
 pub returns-in-Ok-None-clause-refused : goal.returns-in-Ok-None-clause-refused
 returns-in-Ok-None-clause-refused c = λ s at here z.

@@ -14,7 +14,8 @@ returns-in-Some-clause-listed c =
 pub returns-in-Some-clause-refused : goal.returns-in-Some-clause-refused
 returns-in-Some-clause-refused c =
     let says = moved-only c.args.letter c.args.text.now c.in-Some.line (sym c.moved_of.ensures ∙ c.in-Some.is) in
-    IfErr-weaker c.allow_line.result _ (RefusesFirst c.args.link.now.profile (Some (c.args.letter ∷ c.args.text.now)) c.args.n c.args.link.now.state)
+    IfErr-weaker c.allow_line.result _
+    (RefusesFirst c.args.link.now.profile (Some (c.args.letter ∷ c.args.text.now)) c.args.n c.args.link.now.state)
     (λ f h. h (Some (c.args.letter ∷ c.args.text.now)) says) c.allow_line.ensures.refused
 
 pub returns-in-None-clause-refused : goal.returns-in-None-clause-refused

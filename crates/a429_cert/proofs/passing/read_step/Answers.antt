@@ -10,13 +10,15 @@ pub returns-in-Some-clause-listed : goal.returns-in-Some-clause-listed
 returns-in-Some-clause-listed c =
     let bytes = option_map (λ b. b.now) c.args.text in
     let says = rw c.in-Some.is at c.requires.known in
-    IfOk-weaker c.allow_line.result _ (λ x. Lists c.args.profile.now bytes x c.args.link.now.state) (λ x h. rw c.requires.profile at (h bytes says)) c.allow_line.ensures.listed
+    IfOk-weaker c.allow_line.result _ (λ x. Lists c.args.profile.now bytes x c.args.link.now.state)
+    (λ x h. rw c.requires.profile at (h bytes says)) c.allow_line.ensures.listed
 
 pub returns-in-Some-clause-refused : goal.returns-in-Some-clause-refused
 returns-in-Some-clause-refused c =
     let bytes = option_map (λ b. b.now) c.args.text in
     let says = rw c.in-Some.is at c.requires.known in
-    IfErr-weaker c.allow_line.result _ (RefusesFirst c.args.profile.now bytes c.args.n c.args.link.now.state) (λ f h. rw c.requires.profile at (h bytes says)) c.allow_line.ensures.refused
+    IfErr-weaker c.allow_line.result _ (RefusesFirst c.args.profile.now bytes c.args.n c.args.link.now.state)
+    (λ f h. rw c.requires.profile at (h bytes says)) c.allow_line.ensures.refused
 
 pub returns-in-76-clause-listed : goal.returns-in-76-clause-listed
 returns-in-76-clause-listed c =
@@ -53,7 +55,8 @@ returns-in-76-clause-refused c =
     let whole : rest ≡ drop 1 text = take_all (length text - 1) (drop 1 text) (omega (arith, length-drop 1 text)) in
     let bytes : option_map (λ b. b.now) c.args.text ≡ Some (76 ∷ rest) = rw (c.in-Some-text.is, whole) (ap Some first) in
     rw bytes
-    (IfErr-weaker c.read_load.result (λ f. (s : State) → RefusesFirst c.args.profile.now (Some (76 ∷ rest)) c.args.n s f) (RefusesFirst c.args.profile.now (Some (76 ∷ rest)) c.args.n c.args.link.now.state)
+    (IfErr-weaker c.read_load.result (λ f. (s : State) → RefusesFirst c.args.profile.now (Some (76 ∷ rest)) c.args.n s f)
+    (RefusesFirst c.args.profile.now (Some (76 ∷ rest)) c.args.n c.args.link.now.state)
     (λ f h. h c.args.link.now.state) c.read_load.ensures.refused)
 
 pub returns-in_default-text-clause-refused : goal.returns-in_default-text-clause-refused

@@ -12,5 +12,7 @@ new-requires-clause-flags c = c.requires.range.1
 
 pub returns-clause-refused : goal.returns-clause-refused
 returns-clause-refused c = λ at here s.
-    unit_refused c.args.profile.now c.requires.sound s at c.args.line c.in-Err.fault c.no_unit.result (c.no_unit.ensures ∙ ap (no_unit c.in-Err.fault) (sym here))
-    (λ h. subst (λ (ws : List ℕ). IsFirstLduFault c.args.profile.now c.args.line.check ws c.in-Err.fault) c.as_slice.ensures (c.in-Err.ensures.err h))
+    unit_refused c.args.profile.now c.requires.sound s at c.args.line c.in-Err.fault c.no_unit.result
+    (c.no_unit.ensures ∙ ap (no_unit c.in-Err.fault) (sym here))
+    (λ h. subst (λ (ws : List ℕ). IsFirstLduFault c.args.profile.now c.args.line.check ws c.in-Err.fault) c.as_slice.ensures
+    (c.in-Err.ensures.err h))

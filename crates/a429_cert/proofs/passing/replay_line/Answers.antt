@@ -8,7 +8,8 @@ pub returns-in-Ok-clause-refused : goal.returns-in-Ok-clause-refused
 returns-in-Ok-clause-refused c =
     let p = c.args.profile.now in
     let s = c.args.link.now.state in
-    IfErr-weaker c.make_step.result (RefusesListed p c.in-Ok.listed c.args.at s) (RefusesText p (option_map (λ b. b.now) c.args.text) c.args.at s)
+    IfErr-weaker c.make_step.result (RefusesListed p c.in-Ok.listed c.args.at s)
+    (RefusesText p (option_map (λ b. b.now) c.args.text) c.args.at s)
     (λ f h. fault-listed p (option_map (λ b. b.now) c.args.text) c.in-Ok.listed c.args.at s f c.in-Ok.ensures.listed h)
     (rw c.requires.profile at c.make_step.ensures.refused)
 

@@ -16,7 +16,8 @@ use Rattle.a429_cert.specs.Series.{gap, give_ups}
 use Rattle.a429_cert.proofs.SeriesFacts.{past_is, gap_all, gap_none, one_first}
 use Rattle.a429_cert.proofs.series.give_up_to.Goals as goal
 
-no_fault : (p : Contents) (s : State) (n : ℕ) (e : StepFault) → IsIdle s.source.phase → s.source.give_ups + n ≤ 127 → 1 ≤ n → IsFault p GiveUp s e → ⊥
+no_fault : (p : Contents) (s : State) (n : ℕ) (e : StepFault)
+    → IsIdle s.source.phase → s.source.give_ups + n ≤ 127 → 1 ≤ n → IsFault p GiveUp s e → ⊥
 no_fault p s n fault.NotAllowed idle few some h = h (idle, omega (arith, few, some))
 no_fault p s n fault.WordDiffers idle few some h = h.1 (idle, omega (arith, few, some))
 no_fault p s n fault.OutOfMemory idle few some h = absurd h.1
@@ -25,13 +26,16 @@ pub files-init : goal.files-init
 files-init c =
     let s = c.args.link.state in
     let past : (c.args.first + (256 - c.number.result.file)) % 256 ≡ files_past c.args.first s.source.number.file =
-    past_is c.args.first c.number.result.file (omega (arith, c.number.type_inv)) ∙ ap (λ (n : UnitNumber). files_past c.args.first n.file) c.number.ensures in
+    past_is c.args.first c.number.result.file (omega (arith, c.number.type_inv))
+    ∙ ap (λ (n : UnitNumber). files_past c.args.first n.file) c.number.ensures in
     let may : MayGiveUp s ((c.args.first + (256 - c.number.result.file)) % 256) = c.may_give_up.ensures.0 c.if-not-may_give_up.false in
     record {
       idle = may.0;
       few = may.1;
       profile = refl;
-      to_go = ap (λ n. end_of c.args.link.profile (give_ups n) s) (sym (gap_all s c.args.first ((c.args.first + (256 - c.number.result.file)) % 256) past may));
+      to_go =
+          ap (λ n. end_of c.args.link.profile (give_ups n) s)
+          (sym (gap_all s c.args.first ((c.args.first + (256 - c.number.result.file)) % 256) past may));
     }
 
 pub files-preserved : goal.files-preserved
@@ -65,9 +69,12 @@ pub returns-then-not-may_give_up : goal.returns-then-not-may_give_up
 returns-then-not-may_give_up c =
     let s = c.args.link.state in
     let past : (c.args.first + (256 - c.number.result.file)) % 256 ≡ files_past c.args.first s.source.number.file =
-    past_is c.args.first c.number.result.file (omega (arith, c.number.type_inv)) ∙ ap (λ (n : UnitNumber). files_past c.args.first n.file) c.number.ensures in
+    past_is c.args.first c.number.result.file (omega (arith, c.number.type_inv))
+    ∙ ap (λ (n : UnitNumber). files_past c.args.first n.file) c.number.ensures in
     let none : gap s c.args.first ≡ 0 =
-    gap_none s c.args.first ((c.args.first + (256 - c.number.result.file)) % 256) past (λ (may : MayGiveUp s ((c.args.first + (256 - c.number.result.file)) % 256)). cc (c.if-not-may_give_up.true, c.may_give_up.ensures.1 may)) in
+    gap_none s c.args.first ((c.args.first + (256 - c.number.result.file)) % 256) past
+    (λ (may : MayGiveUp s ((c.args.first + (256 - c.number.result.file)) % 256)).
+    cc (c.if-not-may_give_up.true, c.may_give_up.ensures.1 may)) in
     rw none refl
 
 pub apply-requires : goal.apply-requires
@@ -80,4 +87,6 @@ pub files-smaller : goal.files-smaller
 files-smaller c = omega (arith, c.files-test.true)
 
 pub unreachable-requires : goal.unreachable-requires
-unreachable-requires c = no_fault c.files.link.profile c.files.link.state c.files.left c.in-Err.field-0 c.files.invariant.idle c.files.invariant.few c.files-test.true c.in-Err.ensures.fault
+unreachable-requires c =
+    no_fault c.files.link.profile c.files.link.state c.files.left c.in-Err.field-0 c.files.invariant.idle c.files.invariant.few
+    c.files-test.true c.in-Err.ensures.fault

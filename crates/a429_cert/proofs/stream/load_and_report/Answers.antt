@@ -17,7 +17,9 @@ pub returns-then-not-may_load-clause-tried : goal.returns-then-not-may_load-clau
 returns-then-not-may_load-clause-tried g c = tries_none g.T.Listener.tries c.args.replay.now.profile.now c.args.listener.now
 
 pub returns-in-Err-clause-tried : goal.returns-in-Err-clause-tried
-returns-in-Err-clause-tried g c = tries_one g.T.Listener.tries c.args.replay.now.profile.now c.args.listener.now c.load.new.self _ c.load.ensures.tried
+returns-in-Err-clause-tried g c =
+    tries_one g.T.Listener.tries c.args.replay.now.profile.now c.args.listener.now c.load.new.self _ c.load.ensures.tried
 
 pub returns-clause-tried : goal.returns-clause-tried
-returns-clause-tried g c = tries_one g.T.Listener.tries c.args.replay.now.profile.now c.args.listener.now c.load.new.self _ c.load.ensures.tried
+returns-clause-tried g c =
+    tries_one g.T.Listener.tries c.args.replay.now.profile.now c.args.listener.now c.load.new.self _ c.load.ensures.tried

@@ -13,16 +13,20 @@ pub returns-in-Err-clause-device : goal.returns-in-Err-clause-device
 returns-in-Err-clause-device g c = λ e. absurd (cert_no_device c.in-Err.fault (cc (e, c.of_cert.ensures)))
 
 pub returns-in-Err-make-clause-unreported : goal.returns-in-Err-make-clause-unreported
-returns-in-Err-make-clause-unreported g c = rw c.of_trouble.ensures (trouble_unreported c.args.listener.now c.make.new.self c.in-Err-make.trouble)
+returns-in-Err-make-clause-unreported g c =
+    rw c.of_trouble.ensures (trouble_unreported c.args.listener.now c.make.new.self c.in-Err-make.trouble)
 
 pub returns-in-Err-make-clause-device : goal.returns-in-Err-make-clause-device
-returns-in-Err-make-clause-device g c = λ e. c.in-Err-make.ensures.device (cc (trouble_device c.in-Err-make.trouble (cc (e, c.of_trouble.ensures))))
+returns-in-Err-make-clause-device g c =
+    λ e. c.in-Err-make.ensures.device (cc (trouble_device c.in-Err-make.trouble (cc (e, c.of_trouble.ensures))))
 
 pub returns-in-Err-clause-tried : goal.returns-in-Err-clause-tried
 returns-in-Err-clause-tried g c = tries_none g.T.Listener.tries c.args.replay.now.profile.now c.args.listener.now
 
 pub returns-in-Err-make-clause-tried : goal.returns-in-Err-make-clause-tried
-returns-in-Err-make-clause-tried g c = tries_one g.T.Listener.tries c.args.replay.now.profile.now c.args.listener.now c.make.new.self _ c.make.ensures.tried
+returns-in-Err-make-clause-tried g c =
+    tries_one g.T.Listener.tries c.args.replay.now.profile.now c.args.listener.now c.make.new.self _ c.make.ensures.tried
 
 pub returns-in-Ok-make-clause-tried : goal.returns-in-Ok-make-clause-tried
-returns-in-Ok-make-clause-tried g c = tries_one g.T.Listener.tries c.args.replay.now.profile.now c.args.listener.now c.make.new.self _ c.make.ensures.tried
+returns-in-Ok-make-clause-tried g c =
+    tries_one g.T.Listener.tries c.args.replay.now.profile.now c.args.listener.now c.make.new.self _ c.make.ensures.tried

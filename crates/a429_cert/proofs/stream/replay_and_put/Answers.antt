@@ -16,7 +16,9 @@ returns-in-Ok-put_delivered-clause-ok g c =
       goes_on = record {
         state = state;
         passed = c.in-Ok.ensures.passed;
-        put = subst (λ (n : List (ℕ × ℕ)). PutsFiles g.S.Shelf.files c.args.shelf.now c.put_delivered.new.shelf n state.sink.received.files) notes c.in-Ok-put_delivered.ensures.ok;
+        put =
+            subst (λ (n : List (ℕ × ℕ)). PutsFiles g.S.Shelf.files c.args.shelf.now c.put_delivered.new.shelf n state.sink.received.files)
+            notes c.in-Ok-put_delivered.ensures.ok;
         noted = c.in-Ok-put_delivered.ensures.noted ∙ ap (λ (n : List (ℕ × ℕ)). n ++ sizes state.sink.received.files) notes;
         given = ap (λ (w : Replay). w.link.state) c.put_delivered.ensures.kept;
       };
@@ -27,13 +29,15 @@ returns-in-Ok-put_delivered-clause-ok g c =
     }
 
 pub returns-in-Ok-put_delivered-clause-kept : goal.returns-in-Ok-put_delivered-clause-kept
-returns-in-Ok-put_delivered-clause-kept g c = kept_both c.args.replay.now c.replay_and_report.new.replay c.put_delivered.new.replay c.in-Ok.ensures.kept c.put_delivered.ensures.kept
+returns-in-Ok-put_delivered-clause-kept g c =
+    kept_both c.args.replay.now c.replay_and_report.new.replay c.put_delivered.new.replay c.in-Ok.ensures.kept c.put_delivered.ensures.kept
 
 pub returns-in-Ok-put_delivered-clause-profile : goal.returns-in-Ok-put_delivered-clause-profile
 returns-in-Ok-put_delivered-clause-profile g c = ap (λ (w : Replay). w.link.profile) c.put_delivered.ensures.kept ∙ c.in-Ok.ensures.profile
 
 pub returns-in-Err-put_delivered-clause-kept : goal.returns-in-Err-put_delivered-clause-kept
-returns-in-Err-put_delivered-clause-kept g c = kept_both c.args.replay.now c.replay_and_report.new.replay c.put_delivered.new.replay c.in-Ok.ensures.kept c.put_delivered.ensures.kept
+returns-in-Err-put_delivered-clause-kept g c =
+    kept_both c.args.replay.now c.replay_and_report.new.replay c.put_delivered.new.replay c.in-Ok.ensures.kept c.put_delivered.ensures.kept
 
 pub returns-in-Err-put_delivered-clause-profile : goal.returns-in-Err-put_delivered-clause-profile
 returns-in-Err-put_delivered-clause-profile g c = ap (λ (w : Replay). w.link.profile) c.put_delivered.ensures.kept ∙ c.in-Ok.ensures.profile
@@ -56,11 +60,16 @@ returns-in-Err-put_delivered-clause-err g c =
             used = c.in-Ok.used;
             passed = c.in-Ok.ensures.passed;
             given = c.in-Ok.ensures.counts;
-            put = subst (λ (n : List (ℕ × ℕ)). PutsFirstFiles g.S.Shelf.files c.args.shelf.now c.put_delivered.new.shelf n state.sink.received.files) notes c.in-Err-put_delivered.ensures.err;
+            put =
+                subst (λ (n : List (ℕ × ℕ)).
+                PutsFirstFiles g.S.Shelf.files c.args.shelf.now c.put_delivered.new.shelf n state.sink.received.files)
+                notes c.in-Err-put_delivered.ensures.err;
             fault = c.in-Err-put_delivered.ensures.fault;
             device = λ e. c.in-Err-put_delivered.ensures.device (cc e);
           });
-      unreported = none_reported c.args.listener.now c.replay_and_report.new.listener c.in-Err-put_delivered.fault c.in-Err-put_delivered.ensures.fault;
+      unreported =
+          none_reported c.args.listener.now c.replay_and_report.new.listener c.in-Err-put_delivered.fault
+          c.in-Err-put_delivered.ensures.fault;
       device = λ e. inl (c.in-Err-put_delivered.ensures.device (cc e));
       read = λ e. absurd (not_of_read c.in-Err-put_delivered.fault read.Device c.in-Err-put_delivered.ensures.fault (cc e));
     }

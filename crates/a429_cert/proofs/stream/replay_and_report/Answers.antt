@@ -17,23 +17,32 @@ pub returns-in-Ok-clause-refused : goal.returns-in-Ok-clause-refused
 returns-in-Ok-clause-refused g c =
     let p = c.args.replay.now.profile.now in
     let s = c.args.replay.now.link.state in
-    IfErr-weaker c.step_and_report.result (RefusesNext p c.in-Ok.listed (position s c.args.rec.now.to_come c.args.replay.now.used) c.args.replay.now.lines) (RefusesOver p (read_as c.args.replay.now.version (line_bytes c.args.line)) (position s c.args.rec.now.to_come c.args.replay.now.used) c.args.replay.now.lines)
-    (λ f h. refused_text p (read_as c.args.replay.now.version (line_bytes c.args.line)) c.in-Ok.listed s c.args.rec.now.to_come c.args.replay.now.lines c.args.replay.now.used f (rw c.read-text.ensures at c.in-Ok.ensures.listed) h)
+    IfErr-weaker c.step_and_report.result
+    (RefusesNext p c.in-Ok.listed (position s c.args.rec.now.to_come c.args.replay.now.used) c.args.replay.now.lines)
+    (RefusesOver p (read_as c.args.replay.now.version (line_bytes c.args.line))
+    (position s c.args.rec.now.to_come c.args.replay.now.used) c.args.replay.now.lines)
+    (λ f h. refused_text p (read_as c.args.replay.now.version (line_bytes c.args.line)) c.in-Ok.listed s c.args.rec.now.to_come
+    c.args.replay.now.lines c.args.replay.now.used f (rw c.read-text.ensures at c.in-Ok.ensures.listed) h)
     (rw c.requires.profile at c.step_and_report.ensures.refused)
 
 pub returns-in-Ok-clause-heard : goal.returns-in-Ok-clause-heard
 returns-in-Ok-clause-heard g c =
     let p = c.args.replay.now.profile.now in
     on_ok_weaker c.step_and_report.result
-    (λ h. hears_text g.T.Listener.hears p (read_as c.args.replay.now.version (line_bytes c.args.line)) c.in-Ok.listed c.args.replay.now.link.state c.args.rec.now.to_come c.args.replay.now.used c.args.listener.now c.step_and_report.new.listener (rw c.read-text.ensures at c.in-Ok.ensures.listed) h)
+    (λ h. hears_text g.T.Listener.hears p (read_as c.args.replay.now.version (line_bytes c.args.line)) c.in-Ok.listed
+    c.args.replay.now.link.state c.args.rec.now.to_come c.args.replay.now.used c.args.listener.now c.step_and_report.new.listener
+    (rw c.read-text.ensures at c.in-Ok.ensures.listed) h)
     c.step_and_report.ensures.heard
 
 pub returns-in-Err-clause-refused : goal.returns-in-Err-clause-refused
 returns-in-Err-clause-refused g c =
     let p = c.args.replay.now.profile.now in
     let s = c.args.replay.now.link.state in
-    subst (RefusesOver p (read_as c.args.replay.now.version (line_bytes c.args.line)) (position s c.args.rec.now.to_come c.args.replay.now.used) c.args.replay.now.lines) (sym c.of_cert.ensures)
-    (refused_first p (read_as c.args.replay.now.version (line_bytes c.args.line)) s c.args.rec.now.to_come c.args.replay.now.lines c.args.replay.now.used c.in-Err.fault (rw c.read-text.ensures at c.in-Err.ensures.refused))
+    subst (RefusesOver p (read_as c.args.replay.now.version (line_bytes c.args.line))
+    (position s c.args.rec.now.to_come c.args.replay.now.used) c.args.replay.now.lines)
+    (sym c.of_cert.ensures)
+    (refused_first p (read_as c.args.replay.now.version (line_bytes c.args.line)) s c.args.rec.now.to_come c.args.replay.now.lines
+    c.args.replay.now.used c.in-Err.fault (rw c.read-text.ensures at c.in-Err.ensures.refused))
 
 pub returns-in-Ok-clause-passed : goal.returns-in-Ok-clause-passed
 returns-in-Ok-clause-passed g c = search rules
@@ -45,14 +54,16 @@ returns-in-Ok-clause-given g c =
     let text = read_as c.args.replay.now.version (line_bytes c.args.line) in
     let old = c.args.rec.now.count in
     let new = c.step_and_report.new.rec.count in
-    IfErr-weaker c.step_and_report.result (λ f. GivesAtFault (uses_listed c.in-Ok.listed ≡ 1) f old new) (λ f. GivesAtFault (WantsEntry p text s) f old new)
+    IfErr-weaker c.step_and_report.result (λ f. GivesAtFault (uses_listed c.in-Ok.listed ≡ 1) f old new)
+    (λ f. GivesAtFault (WantsEntry p text s) f old new)
     (λ f h. line_given p text c.in-Ok.listed s f old new (rw c.read-text.ensures at c.in-Ok.ensures.listed) h)
     c.step_and_report.ensures.given
 
 pub returns-in-Err-clause-given : goal.returns-in-Err-clause-given
 returns-in-Err-clause-given g c =
     let n = c.args.rec.now.count in
-    let Wants = WantsEntry c.args.replay.now.profile.now (read_as c.args.replay.now.version (line_bytes c.args.line)) c.args.replay.now.link.state in
+    let Wants =
+    WantsEntry c.args.replay.now.profile.now (read_as c.args.replay.now.version (line_bytes c.args.line)) c.args.replay.now.link.state in
     subst (λ f. GivesAtFault Wants f n n) (sym c.of_cert.ensures) (cert_given Wants c.in-Err.fault n n (inl refl))
 
 pub read_step-requires : goal.read_step-requires
@@ -68,7 +79,8 @@ step_and_report-requires g c = rw c.requires.profile c.in-Ok.ensures.listed.3
 pub returns-in-Ok-clause-ended : goal.returns-in-Ok-clause-ended
 returns-in-Ok-clause-ended g c =
     let listed = rw c.read-text.ensures at c.in-Ok.ensures.listed in
-    on_ok_weaker c.step_and_report.result (λ _. says_ended c.args.replay.now.version (line_bytes c.args.line) listed.0 listed.1) c.step_and_report.ensures.heard
+    on_ok_weaker c.step_and_report.result
+    (λ _. says_ended c.args.replay.now.version (line_bytes c.args.line) listed.0 listed.1) c.step_and_report.ensures.heard
 
 pub returns-in-Ok-clause-few : goal.returns-in-Ok-clause-few
 returns-in-Ok-clause-few g c = c.step_and_report.ensures.few

@@ -26,7 +26,8 @@ pub lines-init : goal.lines-init
 lines-init g c =
     let known = unread g.C.Read.remaining c.args.cert.now in
     let old = to_come g.C.Read.remaining c.new-lines.result c.args.cert.now in
-    let state : c.start-replay.result.link.state ≡ start c.args.profile.now c.in-Ok-begin.head.first = ap (λ (l : LinkValue). l.state) c.start-replay.ensures.link in
+    let state : c.start-replay.result.link.state ≡ start c.args.profile.now c.in-Ok-begin.head.first =
+    ap (λ (l : LinkValue). l.state) c.start-replay.ensures.link in
     let none : length (bytes_ahead c.new-lines.result) ≡ 0 = ap (λ (l : List ℕ). length l) c.new-lines.ensures.ahead in
     let lines = c.start-replay.ensures.lines in
     let used = c.start-replay.ensures.used in
@@ -37,9 +38,13 @@ lines-init g c =
         taken = [];
         number = lines;
         reports = rw used
-            (init_both_known c.args.profile.now c.in-Ok-begin.head c.start-replay.result.link.state known old (to_come g.C.Read.remaining c.begin.new.lines c.begin.new.cert) c.args.rec.now.to_come
+            (init_both_known c.args.profile.now c.in-Ok-begin.head c.start-replay.result.link.state known old
+            (to_come g.C.Read.remaining c.begin.new.lines c.begin.new.cert) c.args.rec.now.to_come
             (fresh (bytes_ahead c.new-lines.result) known c.new-lines.ensures.ahead) c.in-Ok-begin.ensures.ok state);
-        heard = rw used (hears_init g.T.Listener.hears c.args.profile.now c.in-Ok-begin.head c.start-replay.result.link.state c.args.listener.now known c.args.rec.now.to_come state);
+        heard =
+            rw used
+            (hears_init g.T.Listener.hears c.args.profile.now c.in-Ok-begin.head c.start-replay.result.link.state c.args.listener.now known
+            c.args.rec.now.to_come state);
         none_left = ap (λ (t : State). t.sink.received.files) state;
         put = gains_none (g.S.Shelf.files c.args.shelf.now) 1;
         noted = c.start-replay.ensures.files;
@@ -72,7 +77,9 @@ returns-in-Err-clause-place g c =
     let known = unread g.C.Read.remaining c.args.cert.now in
     record {
       files = [];
-      place = head_breaks c.args.profile.now known known known (has_failed c.args.cert.now) (g.S.Failing.failed c.args.shelf.now) (g.T.Failing.failed c.args.listener.now) c.args.rec.now c.args.rec.now stream.OutOfMemory
+      place =
+          head_breaks c.args.profile.now known known known (has_failed c.args.cert.now) (g.S.Failing.failed c.args.shelf.now)
+          (g.T.Failing.failed c.args.listener.now) c.args.rec.now c.args.rec.now stream.OutOfMemory
           refl (nothing_read known) tt refl (λ e. absurd (cc e));
       put = gains_none (g.S.Shelf.files c.args.shelf.now) 1;
     }
@@ -83,7 +90,9 @@ returns-in-Err-begin-clause-err g c =
     let old = to_come g.C.Read.remaining c.new-lines.result c.args.cert.now in
     record {
       files = [];
-      fault = head_both_known c.args.profile.now known old c.args.rec.now.to_come c.in-Err-begin.fault (fresh (bytes_ahead c.new-lines.result) known c.new-lines.ensures.ahead) c.in-Err-begin.ensures.err;
+      fault =
+          head_both_known c.args.profile.now known old c.args.rec.now.to_come c.in-Err-begin.fault
+          (fresh (bytes_ahead c.new-lines.result) known c.new-lines.ensures.ahead) c.in-Err-begin.ensures.err;
       put = gains_none (g.S.Shelf.files c.args.shelf.now) 1;
     }
 
@@ -91,7 +100,8 @@ pub returns-in-Err-begin-clause-reports : goal.returns-in-Err-begin-clause-repor
 returns-in-Err-begin-clause-reports g c =
     let known = unread g.C.Read.remaining c.args.cert.now in
     let old = to_come g.C.Read.remaining c.new-lines.result c.args.cert.now in
-    heard_head g.T.Listener.hears c.args.profile.now known old c.args.rec.now.to_come c.in-Err-begin.fault c.args.listener.now (fresh (bytes_ahead c.new-lines.result) known c.new-lines.ensures.ahead) c.in-Err-begin.ensures.err
+    heard_head g.T.Listener.hears c.args.profile.now known old c.args.rec.now.to_come c.in-Err-begin.fault c.args.listener.now
+    (fresh (bytes_ahead c.new-lines.result) known c.new-lines.ensures.ahead) c.in-Err-begin.ensures.err
 
 pub returns-in-Err-begin-clause-place : goal.returns-in-Err-begin-clause-place
 returns-in-Err-begin-clause-place g c =
@@ -100,8 +110,11 @@ returns-in-Err-begin-clause-place g c =
     let left = unread g.C.Read.remaining c.begin.new.cert in
     record {
       files = [];
-      place = head_breaks c.args.profile.now known old left (has_failed c.begin.new.cert) (g.S.Failing.failed c.args.shelf.now) (g.T.Failing.failed c.args.listener.now) c.args.rec.now c.args.rec.now c.in-Err-begin.fault
-          (fresh (bytes_ahead c.new-lines.result) known c.new-lines.ensures.ahead) c.in-Err-begin.ensures.read c.in-Err-begin.ensures.err refl (λ e. c.in-Err-begin.ensures.device (cc e));
+      place =
+          head_breaks c.args.profile.now known old left (has_failed c.begin.new.cert) (g.S.Failing.failed c.args.shelf.now)
+          (g.T.Failing.failed c.args.listener.now) c.args.rec.now c.args.rec.now c.in-Err-begin.fault
+          (fresh (bytes_ahead c.new-lines.result) known c.new-lines.ensures.ahead) c.in-Err-begin.ensures.read c.in-Err-begin.ensures.err
+          refl (λ e. c.in-Err-begin.ensures.device (cc e));
       put = gains_none (g.S.Shelf.files c.args.shelf.now) 1;
     }
 
@@ -112,22 +125,34 @@ pub returns-in-Err-take_next-clause-err : goal.returns-in-Err-take_next-clause-e
 returns-in-Err-take_next-clause-err g c =
     let v = c.lines.invariant in
     let known = unread g.C.Read.remaining c.args.cert.now in
-    stop_refuses g.S.Shelf.files g.T.Listener.hears g.S.Failing.failed g.T.Failing.failed c.args.profile.now (record { known = known; recording = c.args.rec.now; shelf = c.args.shelf.now; listener = c.args.listener.now }) v.head (unread_of (unread g.C.Read.remaining c.take_next.new.cert) (has_failed c.take_next.new.cert))
-    (progress c.lines.replay (to_come g.C.Read.remaining c.lines.lines c.lines.cert) c.lines.rec c.lines.shelf c.lines.listener) (progress c.take_next.new.replay (to_come g.C.Read.remaining c.take_next.new.lines c.take_next.new.cert) c.take_next.new.rec c.take_next.new.shelf c.take_next.new.listener) c.in-Err-take_next.fault v.walks c.in-Err-take_next.ensures.halted.stops
+    stop_refuses g.S.Shelf.files g.T.Listener.hears g.S.Failing.failed g.T.Failing.failed c.args.profile.now
+    (record { known = known; recording = c.args.rec.now; shelf = c.args.shelf.now; listener = c.args.listener.now }) v.head
+    (unread_of (unread g.C.Read.remaining c.take_next.new.cert) (has_failed c.take_next.new.cert))
+    (progress c.lines.replay (to_come g.C.Read.remaining c.lines.lines c.lines.cert) c.lines.rec c.lines.shelf c.lines.listener)
+    (progress c.take_next.new.replay (to_come g.C.Read.remaining c.take_next.new.lines c.take_next.new.cert) c.take_next.new.rec
+    c.take_next.new.shelf c.take_next.new.listener) c.in-Err-take_next.fault v.walks c.in-Err-take_next.ensures.halted.stops
 
 pub returns-in-Err-take_next-clause-reports : goal.returns-in-Err-take_next-clause-reports
 returns-in-Err-take_next-clause-reports g c =
     let v = c.lines.invariant in
     let known = unread g.C.Read.remaining c.args.cert.now in
-    stop_unreported g.S.Shelf.files g.T.Listener.hears g.S.Failing.failed g.T.Failing.failed c.args.profile.now (record { known = known; recording = c.args.rec.now; shelf = c.args.shelf.now; listener = c.args.listener.now }) v.head (unread_of (unread g.C.Read.remaining c.take_next.new.cert) (has_failed c.take_next.new.cert))
-    (progress c.lines.replay (to_come g.C.Read.remaining c.lines.lines c.lines.cert) c.lines.rec c.lines.shelf c.lines.listener) (progress c.take_next.new.replay (to_come g.C.Read.remaining c.take_next.new.lines c.take_next.new.cert) c.take_next.new.rec c.take_next.new.shelf c.take_next.new.listener) c.in-Err-take_next.fault v.walks c.in-Err-take_next.ensures.halted.stops
+    stop_unreported g.S.Shelf.files g.T.Listener.hears g.S.Failing.failed g.T.Failing.failed c.args.profile.now
+    (record { known = known; recording = c.args.rec.now; shelf = c.args.shelf.now; listener = c.args.listener.now }) v.head
+    (unread_of (unread g.C.Read.remaining c.take_next.new.cert) (has_failed c.take_next.new.cert))
+    (progress c.lines.replay (to_come g.C.Read.remaining c.lines.lines c.lines.cert) c.lines.rec c.lines.shelf c.lines.listener)
+    (progress c.take_next.new.replay (to_come g.C.Read.remaining c.take_next.new.lines c.take_next.new.cert) c.take_next.new.rec
+    c.take_next.new.shelf c.take_next.new.listener) c.in-Err-take_next.fault v.walks c.in-Err-take_next.ensures.halted.stops
 
 pub returns-in-Err-take_next-clause-place : goal.returns-in-Err-take_next-clause-place
 returns-in-Err-take_next-clause-place g c =
     let v = c.lines.invariant in
     let known = unread g.C.Read.remaining c.args.cert.now in
-    stop_place g.S.Shelf.files g.T.Listener.hears g.S.Failing.failed g.T.Failing.failed c.args.profile.now (record { known = known; recording = c.args.rec.now; shelf = c.args.shelf.now; listener = c.args.listener.now }) v.head (unread_of (unread g.C.Read.remaining c.take_next.new.cert) (has_failed c.take_next.new.cert))
-    (progress c.lines.replay (to_come g.C.Read.remaining c.lines.lines c.lines.cert) c.lines.rec c.lines.shelf c.lines.listener) (progress c.take_next.new.replay (to_come g.C.Read.remaining c.take_next.new.lines c.take_next.new.cert) c.take_next.new.rec c.take_next.new.shelf c.take_next.new.listener) c.in-Err-take_next.fault v.walks c.in-Err-take_next.ensures.halted.stops
+    stop_place g.S.Shelf.files g.T.Listener.hears g.S.Failing.failed g.T.Failing.failed c.args.profile.now
+    (record { known = known; recording = c.args.rec.now; shelf = c.args.shelf.now; listener = c.args.listener.now }) v.head
+    (unread_of (unread g.C.Read.remaining c.take_next.new.cert) (has_failed c.take_next.new.cert))
+    (progress c.lines.replay (to_come g.C.Read.remaining c.lines.lines c.lines.cert) c.lines.rec c.lines.shelf c.lines.listener)
+    (progress c.take_next.new.replay (to_come g.C.Read.remaining c.take_next.new.lines c.take_next.new.cert) c.take_next.new.rec
+    c.take_next.new.shelf c.take_next.new.listener) c.in-Err-take_next.fault v.walks c.in-Err-take_next.ensures.halted.stops
 
 pub lines-preserved : goal.lines-preserved
 lines-preserved g c =
@@ -136,10 +161,16 @@ lines-preserved g c =
     let found : c.in-Ok-take_next.found ≡ true = c.if-not-found.false in
     record {
       head = v.head;
-      walks = walks_some g.S.Shelf.files g.T.Listener.hears c.args.profile.now (record { known = known; recording = c.args.rec.now; shelf = c.args.shelf.now; listener = c.args.listener.now }) v.head
-          (progress c.lines.replay (to_come g.C.Read.remaining c.lines.lines c.lines.cert) c.lines.rec c.lines.shelf c.lines.listener) (progress c.take_next.new.replay (to_come g.C.Read.remaining c.take_next.new.lines c.take_next.new.cert) c.take_next.new.rec c.take_next.new.shelf c.take_next.new.listener) v.walks (c.in-Ok-take_next.ensures.further found).takes;
+      walks =
+          walks_some g.S.Shelf.files g.T.Listener.hears c.args.profile.now
+          (record { known = known; recording = c.args.rec.now; shelf = c.args.shelf.now; listener = c.args.listener.now }) v.head
+          (progress c.lines.replay (to_come g.C.Read.remaining c.lines.lines c.lines.cert) c.lines.rec c.lines.shelf c.lines.listener)
+          (progress c.take_next.new.replay (to_come g.C.Read.remaining c.take_next.new.lines c.take_next.new.cert) c.take_next.new.rec
+          c.take_next.new.shelf c.take_next.new.listener)
+          v.walks (c.in-Ok-take_next.ensures.further found).takes;
       tried = tries_both g.T.Listener.tries c.args.profile.now c.args.listener.now c.lines.listener c.take_next.new.listener v.tried
-          (subst (λ (q : Contents). TriesSome (listening g.T.Listener.tries c.lines.listener c.take_next.new.listener) q) v.walks.profile c.take_next.ensures.tried);
+          (subst (λ (q : Contents). TriesSome (listening g.T.Listener.tries c.lines.listener c.take_next.new.listener) q) v.walks.profile
+          c.take_next.ensures.tried);
       room = omega (arith, (c.in-Ok-take_next.ensures.further found).lines, v.room);
     }
 
@@ -150,10 +181,18 @@ returns-in-Ok-none_left-clause-ok g c =
     let left = to_come g.C.Read.remaining c.lines.lines c.lines.cert in
     let more = to_come g.C.Read.remaining c.take_next.new.lines c.take_next.new.cert in
     let none = (c.in-Ok-take_next.ensures.at_end c.if-not-found.true).none in
-    let v = ended_walks g.S.Shelf.files g.T.Listener.hears c.args.profile.now (record { known = known; recording = c.args.rec.now; shelf = c.args.shelf.now; listener = c.args.listener.now }) h.head (progress c.lines.replay (to_come g.C.Read.remaining c.lines.lines c.lines.cert) c.lines.rec c.lines.shelf c.lines.listener) (progress c.take_next.new.replay (to_come g.C.Read.remaining c.take_next.new.lines c.take_next.new.cert) c.take_next.new.rec c.take_next.new.shelf c.take_next.new.listener) h.walks none in
+    let v =
+    ended_walks g.S.Shelf.files g.T.Listener.hears c.args.profile.now
+    (record { known = known; recording = c.args.rec.now; shelf = c.args.shelf.now; listener = c.args.listener.now }) h.head
+    (progress c.lines.replay (to_come g.C.Read.remaining c.lines.lines c.lines.cert) c.lines.rec c.lines.shelf c.lines.listener)
+    (progress c.take_next.new.replay (to_come g.C.Read.remaining c.take_next.new.lines c.take_next.new.cert) c.take_next.new.rec
+    c.take_next.new.shelf c.take_next.new.listener) h.walks none in
     record {
       files = v.taken;
-      yes = yes_both_known c.args.profile.now h.head v.k c.take_next.new.replay.used v.taken c.take_next.new.replay.link.state none.line left more known c.args.rec.now.to_come c.take_next.new.rec.to_come c.none_left.new.rec.to_come c.start-replay.ensures.sound v.none_left none.given c.in-Ok-none_left.ensures.ok v.reports;
+      yes =
+          yes_both_known c.args.profile.now h.head v.k c.take_next.new.replay.used v.taken c.take_next.new.replay.link.state none.line left
+          more known c.args.rec.now.to_come c.take_next.new.rec.to_come c.none_left.new.rec.to_come c.start-replay.ensures.sound v.none_left
+          none.given c.in-Ok-none_left.ensures.ok v.reports;
       put = v.put;
       answered = v.noted;
     }
@@ -165,8 +204,15 @@ returns-in-Ok-none_left-clause-heard g c =
     let left = to_come g.C.Read.remaining c.lines.lines c.lines.cert in
     let more = to_come g.C.Read.remaining c.take_next.new.lines c.take_next.new.cert in
     let none = (c.in-Ok-take_next.ensures.at_end c.if-not-found.true).none in
-    let v = ended_walks g.S.Shelf.files g.T.Listener.hears c.args.profile.now (record { known = known; recording = c.args.rec.now; shelf = c.args.shelf.now; listener = c.args.listener.now }) h.head (progress c.lines.replay (to_come g.C.Read.remaining c.lines.lines c.lines.cert) c.lines.rec c.lines.shelf c.lines.listener) (progress c.take_next.new.replay (to_come g.C.Read.remaining c.take_next.new.lines c.take_next.new.cert) c.take_next.new.rec c.take_next.new.shelf c.take_next.new.listener) h.walks none in
-    hears_all g.T.Listener.hears c.args.profile.now h.head v.k c.take_next.new.replay.used v.taken c.take_next.new.replay.link.state none.line known left more c.args.rec.now.to_come c.take_next.new.rec.to_come c.none_left.new.rec.to_come c.args.listener.now c.take_next.new.listener none.given c.in-Ok-none_left.ensures.ok v.reports v.heard
+    let v =
+    ended_walks g.S.Shelf.files g.T.Listener.hears c.args.profile.now
+    (record { known = known; recording = c.args.rec.now; shelf = c.args.shelf.now; listener = c.args.listener.now }) h.head
+    (progress c.lines.replay (to_come g.C.Read.remaining c.lines.lines c.lines.cert) c.lines.rec c.lines.shelf c.lines.listener)
+    (progress c.take_next.new.replay (to_come g.C.Read.remaining c.take_next.new.lines c.take_next.new.cert) c.take_next.new.rec
+    c.take_next.new.shelf c.take_next.new.listener) h.walks none in
+    hears_all g.T.Listener.hears c.args.profile.now h.head v.k c.take_next.new.replay.used v.taken c.take_next.new.replay.link.state
+    none.line known left more c.args.rec.now.to_come c.take_next.new.rec.to_come c.none_left.new.rec.to_come c.args.listener.now
+    c.take_next.new.listener none.given c.in-Ok-none_left.ensures.ok v.reports v.heard
 
 pub returns-in-Ok-none_left-clause-works : goal.returns-in-Ok-none_left-clause-works
 returns-in-Ok-none_left-clause-works g c = (c.in-Ok-take_next.ensures.at_end c.if-not-found.true).works
@@ -178,10 +224,18 @@ returns-clause-err g c =
     let left = to_come g.C.Read.remaining c.lines.lines c.lines.cert in
     let more = to_come g.C.Read.remaining c.take_next.new.lines c.take_next.new.cert in
     let none = (c.in-Ok-take_next.ensures.at_end c.if-not-found.true).none in
-    let v = ended_walks g.S.Shelf.files g.T.Listener.hears c.args.profile.now (record { known = known; recording = c.args.rec.now; shelf = c.args.shelf.now; listener = c.args.listener.now }) h.head (progress c.lines.replay (to_come g.C.Read.remaining c.lines.lines c.lines.cert) c.lines.rec c.lines.shelf c.lines.listener) (progress c.take_next.new.replay (to_come g.C.Read.remaining c.take_next.new.lines c.take_next.new.cert) c.take_next.new.rec c.take_next.new.shelf c.take_next.new.listener) h.walks none in
+    let v =
+    ended_walks g.S.Shelf.files g.T.Listener.hears c.args.profile.now
+    (record { known = known; recording = c.args.rec.now; shelf = c.args.shelf.now; listener = c.args.listener.now }) h.head
+    (progress c.lines.replay (to_come g.C.Read.remaining c.lines.lines c.lines.cert) c.lines.rec c.lines.shelf c.lines.listener)
+    (progress c.take_next.new.replay (to_come g.C.Read.remaining c.take_next.new.lines c.take_next.new.cert) c.take_next.new.rec
+    c.take_next.new.shelf c.take_next.new.listener) h.walks none in
     record {
       files = v.taken;
-      fault = late_both_known c.args.profile.now h.head v.k c.take_next.new.replay.used v.taken c.take_next.new.replay.link.state none.line known left more c.args.rec.now.to_come c.take_next.new.rec.to_come c.none_left.new.rec.to_come c.in-Err-none_left.fault v.none_left none.given c.in-Err-none_left.ensures.err v.reports;
+      fault =
+          late_both_known c.args.profile.now h.head v.k c.take_next.new.replay.used v.taken c.take_next.new.replay.link.state none.line
+          known left more c.args.rec.now.to_come c.take_next.new.rec.to_come c.none_left.new.rec.to_come c.in-Err-none_left.fault
+          v.none_left none.given c.in-Err-none_left.ensures.err v.reports;
       put = v.put;
     }
 
@@ -192,8 +246,15 @@ returns-clause-reports g c =
     let left = to_come g.C.Read.remaining c.lines.lines c.lines.cert in
     let more = to_come g.C.Read.remaining c.take_next.new.lines c.take_next.new.cert in
     let none = (c.in-Ok-take_next.ensures.at_end c.if-not-found.true).none in
-    let v = ended_walks g.S.Shelf.files g.T.Listener.hears c.args.profile.now (record { known = known; recording = c.args.rec.now; shelf = c.args.shelf.now; listener = c.args.listener.now }) h.head (progress c.lines.replay (to_come g.C.Read.remaining c.lines.lines c.lines.cert) c.lines.rec c.lines.shelf c.lines.listener) (progress c.take_next.new.replay (to_come g.C.Read.remaining c.take_next.new.lines c.take_next.new.cert) c.take_next.new.rec c.take_next.new.shelf c.take_next.new.listener) h.walks none in
-    heard_late c.args.profile.now h.head v.k c.take_next.new.replay.used v.taken c.take_next.new.replay.link.state none.line known left more c.args.rec.now.to_come c.take_next.new.rec.to_come c.none_left.new.rec.to_come c.in-Err-none_left.fault g.T.Listener.hears c.args.listener.now c.take_next.new.listener v.none_left none.given c.in-Err-none_left.ensures.err v.reports v.heard
+    let v =
+    ended_walks g.S.Shelf.files g.T.Listener.hears c.args.profile.now
+    (record { known = known; recording = c.args.rec.now; shelf = c.args.shelf.now; listener = c.args.listener.now }) h.head
+    (progress c.lines.replay (to_come g.C.Read.remaining c.lines.lines c.lines.cert) c.lines.rec c.lines.shelf c.lines.listener)
+    (progress c.take_next.new.replay (to_come g.C.Read.remaining c.take_next.new.lines c.take_next.new.cert) c.take_next.new.rec
+    c.take_next.new.shelf c.take_next.new.listener) h.walks none in
+    heard_late c.args.profile.now h.head v.k c.take_next.new.replay.used v.taken c.take_next.new.replay.link.state none.line known left more
+    c.args.rec.now.to_come c.take_next.new.rec.to_come c.none_left.new.rec.to_come c.in-Err-none_left.fault g.T.Listener.hears
+    c.args.listener.now c.take_next.new.listener v.none_left none.given c.in-Err-none_left.ensures.err v.reports v.heard
 
 pub returns-clause-place : goal.returns-clause-place
 returns-clause-place g c =
@@ -202,11 +263,20 @@ returns-clause-place g c =
     let old = to_come g.C.Read.remaining c.lines.lines c.lines.cert in
     let left = unread g.C.Read.remaining c.take_next.new.cert in
     let none = (c.in-Ok-take_next.ensures.at_end c.if-not-found.true).none in
-    let v = ended_walks g.S.Shelf.files g.T.Listener.hears c.args.profile.now (record { known = known; recording = c.args.rec.now; shelf = c.args.shelf.now; listener = c.args.listener.now }) h.head (progress c.lines.replay (to_come g.C.Read.remaining c.lines.lines c.lines.cert) c.lines.rec c.lines.shelf c.lines.listener) (progress c.take_next.new.replay (to_come g.C.Read.remaining c.take_next.new.lines c.take_next.new.cert) c.take_next.new.rec c.take_next.new.shelf c.take_next.new.listener) h.walks none in
+    let v =
+    ended_walks g.S.Shelf.files g.T.Listener.hears c.args.profile.now
+    (record { known = known; recording = c.args.rec.now; shelf = c.args.shelf.now; listener = c.args.listener.now }) h.head
+    (progress c.lines.replay (to_come g.C.Read.remaining c.lines.lines c.lines.cert) c.lines.rec c.lines.shelf c.lines.listener)
+    (progress c.take_next.new.replay (to_come g.C.Read.remaining c.take_next.new.lines c.take_next.new.cert) c.take_next.new.rec
+    c.take_next.new.shelf c.take_next.new.listener) h.walks none in
     record {
       files = v.taken;
-      place = late_breaks c.args.profile.now h.head v.k c.take_next.new.replay.used v.taken c.take_next.new.replay.link.state known old left (has_failed c.take_next.new.cert) (g.S.Failing.failed c.take_next.new.shelf) (g.T.Failing.failed c.take_next.new.listener)
-          (bytes_ahead c.take_next.new.lines) c.args.rec.now c.take_next.new.rec c.none_left.new.rec none.line c.none_left.new.rec.to_come c.in-Err-none_left.fault v.none_left (c.in-Ok-take_next.ensures.at_end c.if-not-found.true).few none.given none.kept v.counted c.in-Err-none_left.ensures.err c.in-Err-none_left.ensures.given v.reports;
+      place =
+          late_breaks c.args.profile.now h.head v.k c.take_next.new.replay.used v.taken c.take_next.new.replay.link.state known old left
+          (has_failed c.take_next.new.cert) (g.S.Failing.failed c.take_next.new.shelf) (g.T.Failing.failed c.take_next.new.listener)
+          (bytes_ahead c.take_next.new.lines) c.args.rec.now c.take_next.new.rec c.none_left.new.rec none.line c.none_left.new.rec.to_come
+          c.in-Err-none_left.fault v.none_left (c.in-Ok-take_next.ensures.at_end c.if-not-found.true).few none.given none.kept v.counted
+          c.in-Err-none_left.ensures.err c.in-Err-none_left.ensures.given v.reports;
       put = v.put;
     }
 
@@ -232,7 +302,10 @@ pub returns-in-Err-clause-read : goal.returns-in-Err-clause-read
 returns-in-Err-clause-read g c = λ e. absurd (cc e)
 
 pub returns-in-Err-begin-clause-read : goal.returns-in-Err-begin-clause-read
-returns-in-Err-begin-clause-read g c = λ e. absurd (head_not_read _ (to_come g.C.Read.remaining c.new-lines.result c.args.cert.now) c.in-Err-begin.fault read.Device c.in-Err-begin.ensures.err (cc e))
+returns-in-Err-begin-clause-read g c =
+    λ e.
+    absurd (head_not_read _
+    (to_come g.C.Read.remaining c.new-lines.result c.args.cert.now) c.in-Err-begin.fault read.Device c.in-Err-begin.ensures.err (cc e))
 
 pub returns-in-Err-take_next-clause-read : goal.returns-in-Err-take_next-clause-read
 returns-in-Err-take_next-clause-read g c = λ e. c.in-Err-take_next.ensures.halted.read (cc e)
@@ -259,10 +332,12 @@ pub returns-in-Err-take_next-clause-tried : goal.returns-in-Err-take_next-clause
 returns-in-Err-take_next-clause-tried g c =
     let p = c.args.profile.now in
     tries_both g.T.Listener.tries p c.args.listener.now c.lines.listener c.take_next.new.listener c.lines.invariant.tried
-    (subst (λ (q : Contents). TriesSome (listening g.T.Listener.tries c.lines.listener c.take_next.new.listener) q) c.lines.invariant.walks.profile c.take_next.ensures.tried)
+    (subst (λ (q : Contents). TriesSome (listening g.T.Listener.tries c.lines.listener c.take_next.new.listener) q)
+    c.lines.invariant.walks.profile c.take_next.ensures.tried)
 
 pub returns-clause-tried : goal.returns-clause-tried
 returns-clause-tried g c =
     let p = c.args.profile.now in
     tries_both g.T.Listener.tries p c.args.listener.now c.lines.listener c.take_next.new.listener c.lines.invariant.tried
-    (subst (λ (q : Contents). TriesSome (listening g.T.Listener.tries c.lines.listener c.take_next.new.listener) q) c.lines.invariant.walks.profile c.take_next.ensures.tried)
+    (subst (λ (q : Contents). TriesSome (listening g.T.Listener.tries c.lines.listener c.take_next.new.listener) q)
+    c.lines.invariant.walks.profile c.take_next.ensures.tried)

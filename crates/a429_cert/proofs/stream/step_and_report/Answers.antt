@@ -21,9 +21,11 @@ returns-in-Load-clause-passed g c =
     let p = replay.link.profile in
     let t = c.load_and_report.new.replay.link.state in
     let next = option_map seen_of c.in-Ok.next in
-    IfOk-weaker c.load_and_report.result (λ used. (o : Option Seen) → PassesListed p (listed.Load c.in-Load.unit) o (change replay.link.state t) used)
+    IfOk-weaker c.load_and_report.result (λ used. (o : Option Seen)
+    → PassesListed p (listed.Load c.in-Load.unit) o (change replay.link.state t) used)
     (ReplaysNext (change replay c.load_and_report.new.replay) c.args.listed (change c.args.rec.now.to_come c.entry_for.new.rec.to_come))
-    (λ used h. passes_next p c.args.listed replay.link.state t c.args.rec.now.to_come c.entry_for.new.rec.to_come next used c.in-Ok.ensures.taken
+    (λ used h.
+    passes_next p c.args.listed replay.link.state t c.args.rec.now.to_come c.entry_for.new.rec.to_come next used c.in-Ok.ensures.taken
     (subst (λ (x : Listed). PassesListed p x next (change replay.link.state t) used) (sym c.in-Load.is) (h next)))
     c.load_and_report.ensures.passed
 
@@ -33,7 +35,8 @@ returns-in-Load-clause-few g c =
     let p = replay.link.profile in
     let t = c.load_and_report.new.replay.link.state in
     let next = option_map seen_of c.in-Ok.next in
-    IfOk-weaker c.load_and_report.result (λ used. (o : Option Seen) → PassesListed p (listed.Load c.in-Load.unit) o (change replay.link.state t) used) (λ used. used ≤ 1)
+    IfOk-weaker c.load_and_report.result (λ used. (o : Option Seen)
+    → PassesListed p (listed.Load c.in-Load.unit) o (change replay.link.state t) used) (λ used. used ≤ 1)
     (λ used h. few_used p (listed.Load c.in-Load.unit) next replay.link.state t used (h next))
     c.load_and_report.ensures.passed
 
@@ -41,13 +44,17 @@ pub returns-in-Load-clause-refused : goal.returns-in-Load-clause-refused
 returns-in-Load-clause-refused g c =
     let replay = c.args.replay.now in
     let next = option_map seen_of c.in-Ok.next in
-    IfErr-weaker c.load_and_report.result (λ f. (o : Option Seen) → IsNotTaken replay (listed.Load c.in-Load.unit) o f) (EndsNext replay c.args.listed c.args.rec.now.to_come)
+    IfErr-weaker c.load_and_report.result (λ f. (o : Option Seen)
+    → IsNotTaken replay (listed.Load c.in-Load.unit) o f) (EndsNext replay c.args.listed c.args.rec.now.to_come)
     (λ f h. ends_next replay c.args.listed c.args.rec.now.to_come c.entry_for.new.rec.to_come next f c.in-Ok.ensures.taken
     (subst (λ (x : Listed). IsNotTaken replay x next f) (sym c.in-Load.is) (h next)))
     c.load_and_report.ensures.refused
 
 pub returns-in-Load-clause-read : goal.returns-in-Load-clause-read
-returns-in-Load-clause-read g c = λ e. absurd (not_read c.args.replay.now (listed.Load c.in-Load.unit) c.load_and_report.result read.Device c.load_and_report.ensures.refused e)
+returns-in-Load-clause-read g c =
+    λ e.
+    absurd (not_read c.args.replay.now
+    (listed.Load c.in-Load.unit) c.load_and_report.result read.Device c.load_and_report.ensures.refused e)
 
 pub returns-in-Moved-clause-passed : goal.returns-in-Moved-clause-passed
 returns-in-Moved-clause-passed g c =
@@ -57,7 +64,8 @@ returns-in-Moved-clause-passed g c =
     let next = option_map seen_of c.in-Ok.next in
     IfOk-weaker c.move_and_report.result (PassesListed p (listed.Moved c.in-Moved.line) next (change replay.link.state t))
     (ReplaysNext (change replay c.move_and_report.new.replay) c.args.listed (change c.args.rec.now.to_come c.entry_for.new.rec.to_come))
-    (λ used h. passes_next p c.args.listed replay.link.state t c.args.rec.now.to_come c.entry_for.new.rec.to_come next used c.in-Ok.ensures.taken
+    (λ used h.
+    passes_next p c.args.listed replay.link.state t c.args.rec.now.to_come c.entry_for.new.rec.to_come next used c.in-Ok.ensures.taken
     (subst (λ (x : Listed). PassesListed p x next (change replay.link.state t) used) (sym c.in-Moved.is) h))
     c.move_and_report.ensures.passed
 
@@ -67,7 +75,8 @@ returns-in-Moved-clause-few g c =
     let p = replay.link.profile in
     let t = c.move_and_report.new.replay.link.state in
     let next = option_map seen_of c.in-Ok.next in
-    IfOk-weaker c.move_and_report.result (PassesListed p (listed.Moved c.in-Moved.line) next (change replay.link.state t)) (λ used. used ≤ 1)
+    IfOk-weaker c.move_and_report.result (PassesListed p (listed.Moved c.in-Moved.line) next (change replay.link.state t))
+    (λ used. used ≤ 1)
     (few_used p (listed.Moved c.in-Moved.line) next replay.link.state t)
     c.move_and_report.ensures.passed
 
@@ -75,7 +84,8 @@ pub returns-in-Moved-clause-refused : goal.returns-in-Moved-clause-refused
 returns-in-Moved-clause-refused g c =
     let replay = c.args.replay.now in
     let next = option_map seen_of c.in-Ok.next in
-    IfErr-weaker c.move_and_report.result (IsNotTaken replay (listed.Moved c.in-Moved.line) next) (EndsNext replay c.args.listed c.args.rec.now.to_come)
+    IfErr-weaker c.move_and_report.result (IsNotTaken replay (listed.Moved c.in-Moved.line) next)
+    (EndsNext replay c.args.listed c.args.rec.now.to_come)
     (λ f h. ends_next replay c.args.listed c.args.rec.now.to_come c.entry_for.new.rec.to_come next f c.in-Ok.ensures.taken
     (subst (λ (x : Listed). IsNotTaken replay x next f) (sym c.in-Moved.is) h))
     c.move_and_report.ensures.refused
@@ -84,7 +94,8 @@ pub returns-in-Err-clause-given : goal.returns-in-Err-clause-given
 returns-in-Err-clause-given g c =
     let old = c.args.rec.now.count in
     let new = c.entry_for.new.rec.count in
-    subst (λ f. GivesAtFault (uses_listed c.args.listed ≡ 1) f old new) (sym c.of_read.ensures) (none_given (uses_listed c.args.listed ≡ 1) c.in-Err.fault old new c.in-Err.ensures.none)
+    subst (λ f. GivesAtFault (uses_listed c.args.listed ≡ 1) f old new) (sym c.of_read.ensures)
+    (none_given (uses_listed c.args.listed ≡ 1) c.in-Err.fault old new c.in-Err.ensures.none)
 
 pub returns-in-Load-clause-counts : goal.returns-in-Load-clause-counts
 returns-in-Load-clause-counts g c =
@@ -92,8 +103,11 @@ returns-in-Load-clause-counts g c =
     let p = replay.link.profile in
     let t = c.load_and_report.new.replay.link.state in
     let next = option_map seen_of c.in-Ok.next in
-    IfOk-weaker c.load_and_report.result (λ used. (o : Option Seen) → PassesListed p (listed.Load c.in-Load.unit) o (change replay.link.state t) used) (λ used. c.entry_for.new.rec.count ≡ c.args.rec.now.count + used)
-    (λ used h. used_given p c.args.listed c.in-Ok.next replay.link.state t used c.args.rec.now.count c.entry_for.new.rec.count c.in-Ok.ensures.given
+    IfOk-weaker c.load_and_report.result (λ used. (o : Option Seen)
+    → PassesListed p (listed.Load c.in-Load.unit) o (change replay.link.state t) used)
+    (λ used. c.entry_for.new.rec.count ≡ c.args.rec.now.count + used)
+    (λ used h.
+    used_given p c.args.listed c.in-Ok.next replay.link.state t used c.args.rec.now.count c.entry_for.new.rec.count c.in-Ok.ensures.given
     (subst (λ (x : Listed). PassesListed p x next (change replay.link.state t) used) (sym c.in-Load.is) (h next)))
     c.load_and_report.ensures.passed
 
@@ -103,8 +117,10 @@ returns-in-Load-clause-given g c =
     let old = c.args.rec.now.count in
     let new = c.entry_for.new.rec.count in
     let next = option_map seen_of c.in-Ok.next in
-    IfErr-weaker c.load_and_report.result (λ f. (o : Option Seen) → IsNotTaken replay (listed.Load c.in-Load.unit) o f) (λ f. GivesAtFault (uses_listed c.args.listed ≡ 1) f old new)
-    (λ f h. not_taken_given replay (listed.Load c.in-Load.unit) next (uses_listed c.args.listed ≡ 1) f old new (h next) (most_given (uses_listed c.args.listed) c.in-Ok.next old new c.in-Ok.ensures.given))
+    IfErr-weaker c.load_and_report.result (λ f. (o : Option Seen)
+    → IsNotTaken replay (listed.Load c.in-Load.unit) o f) (λ f. GivesAtFault (uses_listed c.args.listed ≡ 1) f old new)
+    (λ f h. not_taken_given replay (listed.Load c.in-Load.unit) next (uses_listed c.args.listed ≡ 1) f old new (h next)
+    (most_given (uses_listed c.args.listed) c.in-Ok.next old new c.in-Ok.ensures.given))
     c.load_and_report.ensures.refused
 
 pub returns-in-Moved-clause-counts : goal.returns-in-Moved-clause-counts
@@ -113,8 +129,10 @@ returns-in-Moved-clause-counts g c =
     let p = replay.link.profile in
     let t = c.move_and_report.new.replay.link.state in
     let next = option_map seen_of c.in-Ok.next in
-    IfOk-weaker c.move_and_report.result (PassesListed p (listed.Moved c.in-Moved.line) next (change replay.link.state t)) (λ used. c.entry_for.new.rec.count ≡ c.args.rec.now.count + used)
-    (λ used h. used_given p c.args.listed c.in-Ok.next replay.link.state t used c.args.rec.now.count c.entry_for.new.rec.count c.in-Ok.ensures.given
+    IfOk-weaker c.move_and_report.result (PassesListed p (listed.Moved c.in-Moved.line) next (change replay.link.state t))
+    (λ used. c.entry_for.new.rec.count ≡ c.args.rec.now.count + used)
+    (λ used h.
+    used_given p c.args.listed c.in-Ok.next replay.link.state t used c.args.rec.now.count c.entry_for.new.rec.count c.in-Ok.ensures.given
     (subst (λ (x : Listed). PassesListed p x next (change replay.link.state t) used) (sym c.in-Moved.is) h))
     c.move_and_report.ensures.passed
 
@@ -124,8 +142,10 @@ returns-in-Moved-clause-given g c =
     let old = c.args.rec.now.count in
     let new = c.entry_for.new.rec.count in
     let next = option_map seen_of c.in-Ok.next in
-    IfErr-weaker c.move_and_report.result (IsNotTaken replay (listed.Moved c.in-Moved.line) next) (λ f. GivesAtFault (uses_listed c.args.listed ≡ 1) f old new)
-    (λ f h. not_taken_given replay (listed.Moved c.in-Moved.line) next (uses_listed c.args.listed ≡ 1) f old new h (most_given (uses_listed c.args.listed) c.in-Ok.next old new c.in-Ok.ensures.given))
+    IfErr-weaker c.move_and_report.result (IsNotTaken replay (listed.Moved c.in-Moved.line) next)
+    (λ f. GivesAtFault (uses_listed c.args.listed ≡ 1) f old new)
+    (λ f h. not_taken_given replay (listed.Moved c.in-Moved.line) next (uses_listed c.args.listed ≡ 1) f old new h
+    (most_given (uses_listed c.args.listed) c.in-Ok.next old new c.in-Ok.ensures.given))
     c.move_and_report.ensures.refused
 
 pub returns-in-Err-clause-unreported : goal.returns-in-Err-clause-unreported

@@ -19,7 +19,8 @@ returns-in-Err-clause-err g c =
 
 pub returns-in_default-clause-read : goal.returns-in_default-clause-read
 returns-in_default-clause-read g c =
-    read_none 1 (bytes_ahead c.next_line.new.self) (to_come g.R.Read.remaining c.args.lines.now c.args.cert.now) (unread g.R.Read.remaining c.next_line.new.cert) c.next_line.ensures.few (search rules)
+    read_none 1 (bytes_ahead c.next_line.new.self) (to_come g.R.Read.remaining c.args.lines.now c.args.cert.now)
+    (unread g.R.Read.remaining c.next_line.new.cert) c.next_line.ensures.few (search rules)
 
 pub returns-in-Err-clause-read : goal.returns-in-Err-clause-read
 returns-in-Err-clause-read g c =
@@ -29,4 +30,5 @@ returns-in-Err-clause-read g c =
     let held = held_line c.next_line.new.self in
     let found : c.in-Ok.found ≡ true = search rules in
     subst (ReadsAtMost 1 old left) (sym c.of_cert.ensures)
-    (read_one (bytes_ahead c.next_line.new.self) old left held c.in-Err.fault c.next_line.ensures.few (subst (GivesLine old new held) found c.in-Ok.ensures.given))
+    (read_one (bytes_ahead c.next_line.new.self) old left held c.in-Err.fault c.next_line.ensures.few
+    (subst (GivesLine old new held) found c.in-Ok.ensures.given))

@@ -12,4 +12,5 @@ returns-clause-room g c = search rules
 
 pub returns-in_default-clause-read : goal.returns-in_default-clause-read
 returns-in_default-clause-read g c =
-    read_none 1 (bytes_ahead c.next_line.new.self) (to_come g.R.Read.remaining c.args.lines.now c.args.cert.now) (unread g.R.Read.remaining c.next_line.new.cert) c.next_line.ensures.few (search rules)
+    read_none 1 (bytes_ahead c.next_line.new.self) (to_come g.R.Read.remaining c.args.lines.now c.args.cert.now)
+    (unread g.R.Read.remaining c.next_line.new.cert) c.next_line.ensures.few (search rules)

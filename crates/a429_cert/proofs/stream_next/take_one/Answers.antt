@@ -24,14 +24,23 @@ returns-in-Ok-replay_and_put-clause-further g c = λ _.
     let left = to_come g.C.Read.remaining c.args.lines.now c.args.cert.now in
     let more = to_come g.C.Read.remaining c.next_near.new.self c.next_near.new.cert in
     let ok = c.in-Ok-replay_and_put.ensures.ok in
-    let lines : c.replay_and_put.new.replay.lines ≡ c.args.replay.now.lines + 1 = ap (λ (w : Replay). w.lines) c.replay_and_put.ensures.kept in
+    let lines : c.replay_and_put.new.replay.lines ≡ c.args.replay.now.lines + 1 =
+    ap (λ (w : Replay). w.lines) c.replay_and_put.ensures.kept in
     let shorter = c.in-Ok.ensures.shorter (subst (λ (o : Option (List ℕ)). IsSome o) c.line.ensures ok.ended) in
     record {
       takes = record {
         line = line_bytes c.line.result;
         used = c.in-Ok-replay_and_put.used;
-        given = subst (λ (o : Option (List ℕ)). GivesLine left more o true) (sym c.line.ensures) (subst (GivesLine left more (held_line c.next_near.new.self)) found c.in-Ok.ensures.given);
-        goes_on = record { state = ok.goes_on.state; passed = ok.goes_on.passed; put = ok.goes_on.put; noted = ok.goes_on.noted; given = ok.goes_on.given };
+        given =
+            subst (λ (o : Option (List ℕ)). GivesLine left more o true) (sym c.line.ensures)
+            (subst (GivesLine left more (held_line c.next_near.new.self)) found c.in-Ok.ensures.given);
+        goes_on = record {
+          state = ok.goes_on.state;
+          passed = ok.goes_on.passed;
+          put = ok.goes_on.put;
+          noted = ok.goes_on.noted;
+          given = ok.goes_on.given;
+        };
         heard = ok.heard;
         few = ok.few;
         counts = ok.counts;
@@ -91,7 +100,9 @@ returns-in-Err-clause-halted g c =
             line = line_bytes c.line.result;
             ahead = bytes_ahead c.next_near.new.self;
             few = c.next_near.ensures.few;
-            given = subst (λ (o : Option (List ℕ)). GivesLine left more o true) (sym c.line.ensures) (subst (GivesLine left more (held_line c.next_near.new.self)) found c.in-Ok.ensures.given);
+            given =
+                subst (λ (o : Option (List ℕ)). GivesLine left more o true) (sym c.line.ensures)
+                (subst (GivesLine left more (held_line c.next_near.new.self)) found c.in-Ok.ensures.given);
             stopped = err.stopped;
             unreported = err.unreported;
           });
@@ -109,7 +120,8 @@ pub next_near-requires : goal.next_near-requires
 next_near-requires g c = c.likely_line-likely.ensures
 
 pub replay_and_put-requires : goal.replay_and_put-requires
-replay_and_put-requires g c = record { sound = c.requires.sound; profile = c.requires.profile; known = rw c.line.ensures c.in-Ok.ensures.known }
+replay_and_put-requires g c =
+    record { sound = c.requires.sound; profile = c.requires.profile; known = rw c.line.ensures c.in-Ok.ensures.known }
 
 pub returns-in_default-clause-tried : goal.returns-in_default-clause-tried
 returns-in_default-clause-tried g c = tries_none g.T.Listener.tries c.args.replay.now.profile.now c.args.listener.now

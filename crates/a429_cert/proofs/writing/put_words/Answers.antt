@@ -15,7 +15,9 @@ returns-in_err-put_word-clause-appends c =
     omega (arith, ap length c.loop-word.invariant.items, length-append c.args.out.now.items done) in
     let full : vec_capacity c.loop-word.out < vec_len c.loop-word.out + length (field (hex_text c.to_u32.result)) = search rules in (
       search rules,
-      on_err c.from_residual.result (no_room c.args.words.now i c.to_u32.result (vec_capacity c.args.out.now) (vec_capacity c.loop-word.out) (vec_len c.args.out.now) (vec_len c.loop-word.out)
+      on_err c.from_residual.result
+          (no_room c.args.words.now i c.to_u32.result (vec_capacity c.args.out.now) (vec_capacity c.loop-word.out) (vec_len c.args.out.now)
+          (vec_len c.loop-word.out)
           c.loop-word-test.true c.loop-word.invariant.room len full),
       omega (arith, c.loop-word.invariant.room, c.put_word.ensures.2),
       front-then c.args.out.now.items c.loop-word.out.items c.put_word.new.out.items done c.loop-word.invariant.items c.put_word.ensures.3,

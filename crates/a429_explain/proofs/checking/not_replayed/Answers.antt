@@ -8,7 +8,9 @@ pub loop-at-init : goal.loop-at-init
 loop-at-init c = record { near = omega (arith, c.requires.past); planned = c.requires.planned }
 
 pub returns-in-Err-clause-first : goal.returns-in-Err-clause-first
-returns-in-Err-clause-first c = planned_stop c.args.decoded.now c.loop-at.at c.loop-at.planner c.in-Err.stop c.loop-at.invariant.near c.in-Err.ensures.stopped c.loop-at.invariant.planned
+returns-in-Err-clause-first c =
+    planned_stop c.args.decoded.now c.loop-at.at c.loop-at.planner c.in-Err.stop c.loop-at.invariant.near c.in-Err.ensures.stopped
+    c.loop-at.invariant.planned
 
 pub loop-at-preserved : goal.loop-at-preserved
 loop-at-preserved c =
@@ -16,8 +18,12 @@ loop-at-preserved c =
     let past = c.in-Ok.ensures.past in
     record {
       near = omega (arith, past);
-      planned = planned_on r (first_place c.args.decoded.now.profile c.args.decoded.now.items) c.loop-at.at c.in-Ok.field-0 c.loop-at.planner c.plan_at.new.self c.loop-at.invariant.near c.in-Ok.ensures.planned c.loop-at.invariant.planned;
+      planned =
+          planned_on r (first_place c.args.decoded.now.profile c.args.decoded.now.items) c.loop-at.at c.in-Ok.field-0 c.loop-at.planner
+          c.plan_at.new.self c.loop-at.invariant.near c.in-Ok.ensures.planned c.loop-at.invariant.planned;
     }
 
 pub returns-clause-first : goal.returns-clause-first
-returns-clause-first c = planned_all c.args.decoded.now c.loop-at.planner (omega (arith, c.len-at-end.ensures, c.loop-at-test.false, c.loop-at.invariant.near)) c.loop-at.invariant.planned
+returns-clause-first c =
+    planned_all c.args.decoded.now c.loop-at.planner
+    (omega (arith, c.len-at-end.ensures, c.loop-at-test.false, c.loop-at.invariant.near)) c.loop-at.invariant.planned

@@ -12,5 +12,6 @@ invariant-loop-at l = record {
   plans : ArePlans l.profile l.plans.items;
   written : Wrote l.fn.guess.first_file (take l.at (items_of l.entries)) l.scribe;
   left : l.plans.items ≡ plans_after (take l.at l.fn.guess.roles.items) 0 l.fn.guess.plans.items;
-  plan : IsOfCrossing (decoded l.profile (items_of l.entries)) l.fn.guess → OnPlan l.profile (drop l.at (items_of l.entries)) l.at l.plans.items l.scribe.link;
+  plan : IsOfCrossing (decoded l.profile (items_of l.entries)) l.fn.guess
+      → OnPlan l.profile (drop l.at (items_of l.entries)) l.at l.plans.items l.scribe.link;
 }

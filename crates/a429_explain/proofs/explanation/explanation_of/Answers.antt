@@ -11,7 +11,8 @@ returns c = λ first items is h.
     let p = s.link.profile in
     let r = c.into_parts-certificate.result in
     let text = c.into_parts-certificate.ensures.text in
-    let here : IsExplained p r.0 items r.1.items = rw (text, c.into_parts-certificate.ensures.files) (certificate_written items first s.lines s.gave_up s.link h) in
+    let here : IsExplained p r.0 items r.1.items =
+    rw (text, c.into_parts-certificate.ensures.files) (certificate_written items first s.lines s.gave_up s.link h) in
     record {
       explained = rw (c.new.ensures) here;
       every = subst (AreInEveryRun p items) (sym c.new.ensures) (in_every_run p is r.0 items r.1.items here);

@@ -21,4 +21,5 @@ pub returns : goal.returns
 returns c =
     let some = nonempty c.args.words.now c.is_empty.result c.if-is_empty.false c.is_empty.ensures in
     let carried = sym c.is_none.ensures ∙ some_items c.in_ok-bytes.bytes ∙ ap is_some c.in_ok-bytes.ensures.computed in
-    flip c.is_none.result (are_odd c.args.profile.now.codes c.args.words.now) (carried ∙ odd_none c.args.profile.now c.codes-codes.ensures.sound c.args.words.now some c.requires)
+    flip c.is_none.result (are_odd c.args.profile.now.codes c.args.words.now)
+    (carried ∙ odd_none c.args.profile.now c.codes-codes.ensures.sound c.args.words.now some c.requires)

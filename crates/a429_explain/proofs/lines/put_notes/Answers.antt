@@ -18,4 +18,5 @@ loop-note-preserved g c =
 pub returns-then-failed : goal.returns-then-failed
 returns-then-failed g c =
     let rest = flat_map note_text (drop c.loop-note.note-index c.args.notes.now) in
-    rw (flat_map-rest note_text c.args.notes.now c.loop-note.note-index) at (c.loop-note.invariant ▹ says_after_failure _ _ rest (sym c.failed.ensures ∙ c.if-failed.true))
+    rw (flat_map-rest note_text c.args.notes.now c.loop-note.note-index) at (c.loop-note.invariant
+    ▹ says_after_failure _ _ rest (sym c.failed.ensures ∙ c.if-failed.true))

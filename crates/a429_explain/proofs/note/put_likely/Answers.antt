@@ -11,7 +11,9 @@ pub loop-left-preserved : goal.loop-left-preserved
 loop-left-preserved g c = record {
   said = c.loop-left.invariant.said ++ likely_lines c.loop-left.line c.put_some-put.result.lines;
   says = c.loop-left.invariant.says ▹ c.put_some-put.ensures.text;
-  to_go = likely_some c.loop-left.invariant.said (likely_lines c.args.first c.args.more) c.loop-left.line c.put_some-put.result.last c.loop-left.left c.put_some-put.result.lines c.put_some-put.ensures.few c.put_some-put.ensures.last c.loop-left.invariant.to_go;
+  to_go =
+      likely_some c.loop-left.invariant.said (likely_lines c.args.first c.args.more) c.loop-left.line c.put_some-put.result.last
+      c.loop-left.left c.put_some-put.result.lines c.put_some-put.ensures.few c.put_some-put.ensures.last c.loop-left.invariant.to_go;
 }
 
 pub returns : goal.returns

@@ -17,11 +17,15 @@ loop-sent-preserved g c =
     record {
       said = c.loop-sent.invariant.said ++ line_after (Moved (lost c.args.at (Sending k)));
       says = c.loop-sent.invariant.says ▹ (rw line at c.put_lost.ensures);
-      to_go = rest_first c.loop-sent.invariant.said (rest_lines c.args.at c.args.first (c.args.end - c.args.first)) c.args.at k c.args.end c.loop-sent-test.true c.loop-sent.invariant.to_go;
+      to_go =
+          rest_first c.loop-sent.invariant.said (rest_lines c.args.at c.args.first (c.args.end - c.args.first)) c.args.at k c.args.end
+          c.loop-sent-test.true c.loop-sent.invariant.to_go;
     }
 
 pub returns : goal.returns
 returns g c =
     let past : c.args.end ≤ c.loop-sent.sent = omega (arith, c.loop-sent-test.false) in
-    let all = rest_last c.loop-sent.invariant.said (rest_lines c.args.at c.args.first (c.args.end - c.args.first)) c.args.at c.loop-sent.sent c.args.end past c.loop-sent.invariant.to_go in
+    let all =
+    rest_last c.loop-sent.invariant.said (rest_lines c.args.at c.args.first (c.args.end - c.args.first)) c.args.at c.loop-sent.sent
+    c.args.end past c.loop-sent.invariant.to_go in
     rw all at (c.loop-sent.invariant.says ▹ (rw c.lost.ensures at c.put_move.ensures))

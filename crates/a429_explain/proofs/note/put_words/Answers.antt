@@ -13,7 +13,9 @@ pub loop-left-preserved : goal.loop-left-preserved
 loop-left-preserved g c = record {
   said = c.loop-left.invariant.said ++ field (hex_text c.args.word);
   says = c.loop-left.invariant.says ▹ c.put_word.ensures;
-  to_go = same_first c.loop-left.invariant.said (same_fields c.args.word c.args.times) c.args.word c.loop-left.left c.loop-left-test.true c.loop-left.invariant.to_go;
+  to_go =
+      same_first c.loop-left.invariant.said
+      (same_fields c.args.word c.args.times) c.args.word c.loop-left.left c.loop-left-test.true c.loop-left.invariant.to_go;
 }
 
 pub returns : goal.returns

@@ -10,5 +10,7 @@ returns c =
     let j = c.in_ok-minute_end.minute_end in
     let rest = take (length text - (i + 1)) (drop (i + 1) text) in
     let last = take (length rest - (j + 1)) (drop (j + 1) rest) in
-    time_read c.args.day c.args.half c.args.point i j text rest last c.hour_in.result c.sixtieth.result c.seconds_in.result c.time_at.result c.in_ok-hour_end.ensures.first
-    (take_rest text (i + 1)) c.in_ok-minute_end.ensures.first (take_rest rest (j + 1)) c.hour_in.ensures c.sixtieth.ensures c.seconds_in.ensures.reading c.time_at.ensures
+    time_read c.args.day c.args.half c.args.point i j text rest last c.hour_in.result c.sixtieth.result c.seconds_in.result c.time_at.result
+    c.in_ok-hour_end.ensures.first
+    (take_rest text (i + 1)) c.in_ok-minute_end.ensures.first
+    (take_rest rest (j + 1)) c.hour_in.ensures c.sixtieth.ensures c.seconds_in.ensures.reading c.time_at.ensures

@@ -5,4 +5,5 @@ use Rattle.a429_import.proofs.ColumnsFacts.{with_places}
 use Rattle.a429_import.proofs.columns.part_places.Given as goal
 
 abbrev pub invariant-loop-part : goal.invariant-loop-part
-invariant-loop-part l = with_places l.places.items (part_places (fields_left l.names) (drop l.part-index l.parts)) ≡ part_places (fields_left l.names) l.parts
+invariant-loop-part l =
+    with_places l.places.items (part_places (fields_left l.names) (drop l.part-index l.parts)) ≡ part_places (fields_left l.names) l.parts

@@ -8,8 +8,11 @@ use Rattle.a429_import.proofs.fields.cut.Goals as goal
 
 pub returns-clause-fields : goal.returns-clause-fields
 returns-clause-fields c =
-    rw c.requires.starts (ap (map trimmed) (from_starts c.args.at c.args.text.now ∙ sym (cut_is c.args.at c.args.quotes c.args.text.now c.requires.some (none_marked _ c.requires.plain))))
+    rw c.requires.starts
+    (ap (map trimmed) (from_starts c.args.at c.args.text.now
+    ∙ sym (cut_is c.args.at c.args.quotes c.args.text.now c.requires.some (none_marked _ c.requires.plain))))
 
 pub returns-clause-few : goal.returns-clause-few
 returns-clause-few c =
-    rw (c.requires.starts, from_starts c.args.at c.args.text.now) (omega (arith, length-map (pieces c.args.at c.args.text.now) trimmed, pieces-few c.args.at c.args.text.now, c.type_inv.text))
+    rw (c.requires.starts, from_starts c.args.at c.args.text.now)
+    (omega (arith, length-map (pieces c.args.at c.args.text.now) trimmed, pieces-few c.args.at c.args.text.now, c.type_inv.text))

@@ -13,4 +13,5 @@ pub returns-clause-some : goal.returns-clause-some
 returns-clause-some c =
     let rest = c.without_first_blanks-text.result.now in
     let some : 0 < length c.without_first_blanks-text.result.now = grind (arith, nat_tests) in
-    rw (take_rest rest c.word_end-end.result, c.word_end-end.ensures.length) (word_here c.args.text.now rest c.without_first_blanks-text.ensures some)
+    rw (take_rest rest c.word_end-end.result, c.word_end-end.ensures.length)
+    (word_here c.args.text.now rest c.without_first_blanks-text.ensures some)

@@ -47,11 +47,15 @@ returns-in-Err-turn-clause-until g c =
     let bytes = unread g.R.Read.remaining c.args.export.now in
     let left = pending_of g.R.Read.remaining c.lines.lines c.lines.export in
     let new = pending_of g.R.Read.remaining c.next_line.new.self c.next_line.new.rec in
-    let lost = subst (λ (line : List ℕ). Loses (IsLineHanded line) left new) (sym c.as_slice.ensures.value) (c.in-Ok-next_line.ensures.takes c.if-not-more.false) in
+    let lost =
+    subst (λ (line : List ℕ). Loses (IsLineHanded line) left new) (sym c.as_slice.ensures.value)
+    (c.in-Ok-next_line.ensures.takes c.if-not-more.false) in
     record {
       lots = i.lots;
       says = i.says;
-      stops = stops_at m bytes left new i.lots c.lines.progress c.as_slice.result.now c.in-Err-turn.fault i.gave lost c.in-Err-turn.ensures.answers;
+      stops =
+          stops_at m bytes left new i.lots c.lines.progress c.as_slice.result.now c.in-Err-turn.fault i.gave lost
+          c.in-Err-turn.ensures.answers;
     }
 
 pub lines-preserved : goal.lines-preserved
@@ -62,7 +66,9 @@ lines-preserved g c =
     let bytes = unread g.R.Read.remaining c.args.export.now in
     let left = pending_of g.R.Read.remaining c.lines.lines c.lines.export in
     let new = pending_of g.R.Read.remaining c.next_line.new.self c.next_line.new.rec in
-    let lost = subst (λ (line : List ℕ). Loses (IsLineHanded line) left new) (sym c.as_slice.ensures.value) (c.in-Ok-next_line.ensures.takes c.if-not-more.false) in
+    let lost =
+    subst (λ (line : List ℕ). Loses (IsLineHanded line) left new) (sym c.as_slice.ensures.value)
+    (c.in-Ok-next_line.ensures.takes c.if-not-more.false) in
     let less = c.in-Ok-next_line.ensures.room c.if-not-more.false in
     let answers = c.in-Ok-turn.ensures.answers in
     let after = c.in-Ok-turn.ensures.after in

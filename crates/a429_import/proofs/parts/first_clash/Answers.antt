@@ -8,4 +8,6 @@ loop-bit-preserved c =
     let end = c.args.part.now.bits.low + c.args.part.now.bits.count in
     let bit = c.loop-bit.bit in
     let more : end - bit ≡ suc (end - (bit + 1)) = omega arith in
-    sym (first_bit-next (is_in_part c.args.earlier.now) bit (end - bit) (end - (bit + 1)) more (sym c.is_in_part.ensures ∙ c.if-is_in_part.false)) ∙ c.loop-bit.invariant
+    sym (first_bit-next (is_in_part c.args.earlier.now) bit (end - bit) (end - (bit + 1)) more
+    (sym c.is_in_part.ensures ∙ c.if-is_in_part.false))
+    ∙ c.loop-bit.invariant

@@ -8,4 +8,6 @@ loop-bit-preserved c =
     let end = c.args.most + 1 in
     let bit = c.loop-bit.bit in
     let more : end - bit ≡ suc (end - (bit + 1)) = omega arith in
-    sym (first_bit-next (λ n. not (is_in_part c.args.parts.now n)) bit (end - bit) (end - (bit + 1)) more (ap not (sym c.is_in_part.ensures ∙ c.if-not-is_in_part.false))) ∙ c.loop-bit.invariant
+    sym (first_bit-next (λ n. not (is_in_part c.args.parts.now n)) bit (end - bit) (end - (bit + 1)) more
+    (ap not (sym c.is_in_part.ensures ∙ c.if-not-is_in_part.false)))
+    ∙ c.loop-bit.invariant

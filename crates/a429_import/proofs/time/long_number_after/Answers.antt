@@ -13,7 +13,12 @@ digit_of-requires c = digit_in c.args.digits.now c.digits.byte-index (omega arit
 pub overflow_add-number : goal.overflow_add-number
 overflow_add-number c =
     let inside : c.digits.byte-index < length c.args.digits.now = omega arith in
-    omega (arith, room_now c.digits.number (length c.args.digits.now) c.digits.byte-index _ inside c.digits.invariant.room, c.requires.room, digit_in c.args.digits.now c.digits.byte-index inside c.requires.digits)
+    omega (
+      arith,
+      room_now c.digits.number (length c.args.digits.now) c.digits.byte-index _ inside c.digits.invariant.room,
+      c.requires.room,
+      digit_in c.args.digits.now c.digits.byte-index inside c.requires.digits,
+    )
 
 pub digits-preserved : goal.digits-preserved
 digits-preserved c =
@@ -21,6 +26,10 @@ digits-preserved c =
     let value = c.from.ensures ∙ c.digit_of.ensures in
     let small = digit_in c.args.digits.now c.digits.byte-index inside c.requires.digits in
     record {
-      number = next_digit c.args.before c.digits.number c.args.digits.now c.digits.byte-index c.from.result inside c.digits.invariant.number value;
-      room = room_after c.digits.number c.from.result (length c.args.digits.now) c.digits.byte-index _ inside (rw value small) c.digits.invariant.room;
+      number =
+          next_digit c.args.before c.digits.number c.args.digits.now c.digits.byte-index c.from.result inside c.digits.invariant.number
+          value;
+      room =
+          room_after c.digits.number c.from.result (length c.args.digits.now) c.digits.byte-index _ inside
+          (rw value small) c.digits.invariant.room;
     }

@@ -11,7 +11,9 @@ returns c =
     let parts = c.parts_of-parts in
     let codes = c.codes.result.now in
     let none = not_some c.why_free.result (sym c.is_some.ensures ∙ c.if-is_some.false) in
-    some_across c.args.profile.now.codes c.args.bus c.args.word (fields_in parts.result) c.form_on.result parts.ensures.word (λ free. c.why_free.ensures.free.1 free none) parts.ensures.fields
+    some_across c.args.profile.now.codes c.args.bus c.args.word (fields_in parts.result) c.form_on.result parts.ensures.word
+    (λ free. c.why_free.ensures.free.1 free none) parts.ensures.fields
     (c.form_on.ensures
     ∙ ap (λ (b : Bus). form_on (with_destination parts.result.middle codes) b (fields_in parts.result)) c.other_line.ensures
-    ∙ ap (λ (d : Codes). form_on (with_destination parts.result.middle d) (other_line c.args.bus) (fields_in parts.result)) c.codes.ensures.codes)
+    ∙ ap (λ (d : Codes). form_on (with_destination parts.result.middle d) (other_line c.args.bus) (fields_in parts.result))
+    c.codes.ensures.codes)

@@ -10,7 +10,9 @@ returns-then-is_none-clause-yes c some =
     kept_whole c.args.bytes.now c.args.low (sym c.if-is_none.ensures) (omega (arith, filled))
 
 pub returns-then-is_none-clause-no : goal.returns-then-is_none-clause-no
-returns-then-is_none-clause-no c none = none_whole c.args.bytes.now c.args.low (sym c.if-is_none.ensures) (nil_from_length _ (eqb-true _ 0 (sym c.is_empty.ensures ∙ not-false _ none)))
+returns-then-is_none-clause-no c none =
+    none_whole c.args.bytes.now c.args.low (sym c.if-is_none.ensures)
+    (nil_from_length _ (eqb-true _ 0 (sym c.is_empty.ensures ∙ not-false _ none)))
 
 pub returns-else-is_none-clause-no : goal.returns-else-is_none-clause-no
 returns-else-is_none-clause-no c e = sym (left_over c.args.bytes.now c.args.low (sym c.if-is_none.ensures))

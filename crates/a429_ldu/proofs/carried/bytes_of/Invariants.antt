@@ -11,6 +11,7 @@ invariant-loop-piece l =
     (goal.iterator-loop-piece).can_next l.piece-iterator
     × (goal.iterator-loop-piece).is_finite l.piece-iterator
     × (chunks_size l.piece-iterator ≡ 252)
-    × (joined_to (Some (semis_of_bytes l.bytes.items ++ option_to_list l.low)) (semis_of_words l.profile.codes (chunks_rest l.piece-iterator)) ≡ semis_of_words l.profile.codes l.words)
+    × (joined_to (Some (semis_of_bytes l.bytes.items ++ option_to_list l.low))
+    (semis_of_words l.profile.codes (chunks_rest l.piece-iterator)) ≡ semis_of_words l.profile.codes l.words)
     × IfSome l.low (λ digit. digit < 16)
     × ((chunks_rest l.piece-iterator ≡ l.words) ⊎ IsProfile l.profile)

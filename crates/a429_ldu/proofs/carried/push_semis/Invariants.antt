@@ -5,6 +5,7 @@ use Rattle.a429_ldu.proofs.carried.push_semis.Given as goal
 
 abbrev pub invariant-loop-digit : goal.invariant-loop-digit
 invariant-loop-digit l = record {
-  bytes : semis_of_bytes l.bytes.items ++ option_to_list l.waiting ≡ (semis_of_bytes l.fn.bytes.items ++ option_to_list l.fn.low) ++ take l.digit-index l.semis;
+  bytes : semis_of_bytes l.bytes.items ++ option_to_list l.waiting ≡ (semis_of_bytes l.fn.bytes.items ++ option_to_list l.fn.low)
+      ++ take l.digit-index l.semis;
   low : IfSome l.waiting (λ digit. digit < 16);
 }

@@ -12,5 +12,7 @@ returns c =
     let bits = flat_map (fed_bits k.low_first) bytes in
     let register = c.after_bytes-register.result in
     let same : register ≡ fold (fed_down (turned k.poly)) (turned k.init) bits =
-    c.after_bytes-register.ensures ∙ ap (λ r. fold (fed_down (turned r.poly)) c.reverse_bits-start.result bits) (sym c.rule-rule.ensures) ∙ ap (λ s. fold (fed_down (turned k.poly)) s bits) c.reverse_bits-start.ensures in
-    by_down k register c.finished.result bytes (omega arith) (omega arith) same c.finished.ensures ∙ ap (λ r. check_of r bytes) c.rule-rule.ensures
+    c.after_bytes-register.ensures ∙ ap (λ r. fold (fed_down (turned r.poly)) c.reverse_bits-start.result bits) (sym c.rule-rule.ensures)
+    ∙ ap (λ s. fold (fed_down (turned k.poly)) s bits) c.reverse_bits-start.ensures in
+    by_down k register c.finished.result bytes (omega arith) (omega arith) same c.finished.ensures
+    ∙ ap (λ r. check_of r bytes) c.rule-rule.ensures

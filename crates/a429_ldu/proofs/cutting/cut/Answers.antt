@@ -11,7 +11,9 @@ cut_units c =
     let bytes = c.args.bytes.now in
     let some = eqb-false _ 0 (sym c.if-is_empty.ensures) in
     let same = c.in-Ok.ensures.units ∙ ap (λ n. units_in p (pieces 255 ((n - 2) * 5 / 2) bytes)) c.from.ensures in
-    subst (λ (us : List LduValue). AreUnits p c.args.max_words bytes us) (sym same) (units p c.in-Ok.ensures.profile c.args.max_words bytes c.requires (omega arith) (all_small bytes (λ i. let h = c.type_inv.bytes i in omega arith)) (omega (arith, some)) (omega arith))
+    subst (λ (us : List LduValue). AreUnits p c.args.max_words bytes us) (sym same)
+    (units p c.in-Ok.ensures.profile c.args.max_words bytes c.requires (omega arith)
+    (all_small bytes (λ i. let h = c.type_inv.bytes i in omega arith)) (omega (arith, some)) (omega arith))
 
 pub returns-in-Ok-clause-sound : goal.returns-in-Ok-clause-sound
 returns-in-Ok-clause-sound c = (cut_units c).sound

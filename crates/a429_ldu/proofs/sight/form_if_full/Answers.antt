@@ -14,5 +14,13 @@ returns c =
     let parts = c.parts_of-parts.ensures in
     let at = c.is_addressed.ensures.0 c.if-not-is_addressed.false in
     ap Some c.full_form.ensures
-    ∙ full_word c.args.profile.now c.codes-codes.result.now c.args.bus c.args.word _ (record { profile = c.codes-codes.ensures.sound; codes = c.codes-codes.ensures.codes; parity = at.0; label = at.1; word = parts.word; fields = parts.fields; kind = c.if-parts-codes.false })
+    ∙ full_word c.args.profile.now c.codes-codes.result.now c.args.bus c.args.word _ (record {
+      profile = c.codes-codes.ensures.sound;
+      codes = c.codes-codes.ensures.codes;
+      parity = at.0;
+      label = at.1;
+      word = parts.word;
+      fields = parts.fields;
+      kind = c.if-parts-codes.false;
+    })
     (of_bus_a c.args.bus (search rules))

@@ -13,7 +13,9 @@ returns-in_err-next-clause-until g c =
       entries = [];
       came = omega (arith, none);
       says = says_nothing _ c.args.sheet.now;
-      stops = gave_until c.args.rec.now.to_come c.next_of.new.rec.to_come [] _ (gave_first c.args.rec.now.to_come c.next_of.new.rec.to_come _ c.in_err-next.ensures.gives);
+      stops =
+          gave_until c.args.rec.now.to_come c.next_of.new.rec.to_come [] _
+          (gave_first c.args.rec.now.to_come c.next_of.new.rec.to_come _ c.in_err-next.ensures.gives);
     })
 
 pub entries-init : goal.entries-init
@@ -28,12 +30,15 @@ entries-init g c = record {
 
 pub returns-in_default-clause-all : goal.returns-in_default-clause-all
 returns-in_default-clause-all g c =
-    let all : c.entries.rec.count ≡ c.args.rec.now.count + length c.entries.invariant.entries + 0 = rw c.in_default.is at c.entries.invariant.count in
+    let all : c.entries.rec.count ≡ c.args.rec.now.count + length c.entries.invariant.entries + 0 =
+    rw c.in_default.is at c.entries.invariant.count in
     record {
       entries = c.entries.invariant.entries;
       says = c.entries.invariant.says;
       first = gave_these c.args.rec.now.to_come c.entries.rec.to_come c.entries.invariant.entries _ c.entries.invariant.gave;
-      all = λ works. gave_all c.args.rec.now.to_come c.entries.rec.to_come c.entries.invariant.entries (rw c.in_default.is at c.entries.invariant.gave);
+      all =
+          λ works. gave_all c.args.rec.now.to_come c.entries.rec.to_come c.entries.invariant.entries
+          (rw c.in_default.is at c.entries.invariant.gave);
       came = λ works. omega (arith, all);
     }
 
@@ -59,7 +64,9 @@ returns-in_err-next-2-clause-until g c =
       entries = es ++ e ∷ [];
       came = omega (arith, before, none, length-append es (e ∷ []));
       says = rw (before_is codes es e ∙ kept_text-push codes es e) (c.entries.invariant.says ▹ c.put_if_kept.ensures);
-      stops = gave_until c.args.rec.now.to_come c.next_of-in-entries.new.rec.to_come (es ++ e ∷ []) _ (gave_more _ _ _ es e _ (rw c.in-Some.is at c.entries.invariant.gave) c.in_err-next-2.ensures.gives);
+      stops =
+          gave_until c.args.rec.now.to_come c.next_of-in-entries.new.rec.to_come (es ++ e ∷ []) _
+          (gave_more _ _ _ es e _ (rw c.in-Some.is at c.entries.invariant.gave) c.in_err-next-2.ensures.gives);
     })
 
 pub entries-smaller : goal.entries-smaller

@@ -8,7 +8,8 @@ use Rattle.a429_parts.proofs.parting.put_parts.Given as goal
 abbrev pub invariant-entries : goal.invariant-entries
 invariant-entries g l = record {
   entries : List Entry;
-  progress : Progress l.profile l.most false (outputs g.W.Write.contents (g.P.Parts.known l.fn.parts) (g.P.Parts.known l.parts) l.fn.sheet l.sheet) entries l.parting;
+  progress : Progress l.profile l.most false
+      (outputs g.W.Write.contents (g.P.Parts.known l.fn.parts) (g.P.Parts.known l.parts) l.fn.sheet l.sheet) entries l.parting;
   came : Came l.fn.rec.to_come entries l.rec.to_come;
   current : IsCurrent l.parting.cutter;
   count : l.rec.count ≡ l.fn.rec.count + length entries;

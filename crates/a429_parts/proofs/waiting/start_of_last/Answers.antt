@@ -5,7 +5,8 @@ use Rattle.a429_parts.proofs.waiting.start_of_last.Goals as goal
 use Rattle.a429_parts.proofs.waiting.start_of_last.Goals.{in-Some, in-None}
 
 pub slice_bounds-memrchr-count : goal.slice_bounds-memrchr-count
-slice_bounds-memrchr-count c = (last_within c.args.lines.now c.loop.counter c.loop.start c.requires.written (omega arith) c.loop.invariant).0
+slice_bounds-memrchr-count c =
+    (last_within c.args.lines.now c.loop.counter c.loop.start c.requires.written (omega arith) c.loop.invariant).0
 
 pub slice_bounds-memrchr-length : goal.slice_bounds-memrchr-length
 slice_bounds-memrchr-length c =
@@ -15,6 +16,9 @@ slice_bounds-memrchr-length c =
 pub loop-preserved : goal.loop-preserved
 loop-preserved c =
     elim c.match-memrchr.branch [
-      | in-Some w ↦ w.start-is ∙ last_begins c.args.lines.now c.loop.counter c.loop.start (Some w.in-Some.end) c.requires.written (omega arith) c.loop.invariant w.in-Some.ensures
-      | in-None w ↦ w.start-is ∙ sym (last_begins c.args.lines.now c.loop.counter c.loop.start None c.requires.written (omega arith) c.loop.invariant w.in-None.ensures)
+      | in-Some w ↦ w.start-is ∙ last_begins c.args.lines.now c.loop.counter c.loop.start (Some w.in-Some.end) c.requires.written
+          (omega arith) c.loop.invariant w.in-Some.ensures
+      | in-None w ↦ w.start-is
+          ∙ sym (last_begins c.args.lines.now c.loop.counter c.loop.start None c.requires.written
+          (omega arith) c.loop.invariant w.in-None.ensures)
     ]

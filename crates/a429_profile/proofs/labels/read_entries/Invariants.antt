@@ -9,6 +9,7 @@ use Rattle.a429_profile.proofs.labels.read_entries.Given as goal
 abbrev pub invariant-loop-position : goal.invariant-loop-position
 invariant-loop-position l = record {
   faults : entries_fault 0 (map view l.values) ≡ entries_fault l.position (map view (drop l.position l.values));
-  entries : l.entries.items ++ map (λ e. entry_in_table (table_of (view e))) (drop l.position l.values) ≡ map (λ e. entry_in_table (table_of (view e))) l.values;
+  entries : l.entries.items ++ map (λ e. entry_in_table (table_of (view e))) (drop l.position l.values)
+      ≡ map (λ e. entry_in_table (table_of (view e))) l.values;
   tables : list_all (λ v. is_table (view v)) (drop l.position l.values) ≡ true;
 }

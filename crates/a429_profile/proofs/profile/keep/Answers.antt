@@ -7,7 +7,8 @@ pub returns-clause-entries : goal.returns-clause-entries
 returns-clause-entries c =
     let ks = c.args.labels.now.entries in
     let e = c.args.entry in
-    ap entries_of (c.in_ok-insert.ensures.entries ∙ insert_entry-apart e ks c.requires.keyed c.requires.apart) ∙ entries_of-end ks (label_and_sdi e, e)
+    ap entries_of (c.in_ok-insert.ensures.entries ∙ insert_entry-apart e ks c.requires.keyed c.requires.apart)
+    ∙ entries_of-end ks (label_and_sdi e, e)
 
 pub returns-clause-keyed : goal.returns-clause-keyed
 returns-clause-keyed c =

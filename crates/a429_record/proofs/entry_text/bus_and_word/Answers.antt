@@ -11,11 +11,13 @@ letter_alone B = refl
 
 -- byte by byte
 bytes-are : (before following w : ℕ) (bus : Bus) (letter hex : List ℕ) → letter ≡ bus_text bus → hex ≡ hex_text w
-    → before ∷ get_or letter 0 0 ∷ before ∷ get_or hex 0 0 ∷ get_or hex 1 0 ∷ get_or hex 2 0 ∷ get_or hex 3 0 ∷ get_or hex 4 0 ∷ get_or hex 5 0 ∷ get_or hex 6 0 ∷ get_or hex 7 0 ∷ following ∷ []
+    → before ∷ get_or letter 0 0 ∷ before ∷ get_or hex 0 0 ∷ get_or hex 1 0 ∷ get_or hex 2 0 ∷ get_or hex 3 0 ∷ get_or hex 4 0
+    ∷ get_or hex 5 0 ∷ get_or hex 6 0 ∷ get_or hex 7 0 ∷ following ∷ []
     ≡ before ∷ (bus_text bus ++ (before ∷ (hex_text w ++ following ∷ [])))
 unfolding numeral
 bytes-are before following w bus letter hex e1 e2 = rw (e1, e2, ← letter_alone bus) refl
 
 pub returns : goal.returns
 returns c =
-    bytes-are c.args.before c.args.following c.args.word c.args.bus c.as_bytes.result.now c.hex-hex.result (c.as_bytes.ensures.value ∙ c.letter.ensures) c.hex-hex.ensures
+    bytes-are c.args.before c.args.following c.args.word c.args.bus c.as_bytes.result.now c.hex-hex.result
+    (c.as_bytes.ensures.value ∙ c.letter.ensures) c.hex-hex.ensures

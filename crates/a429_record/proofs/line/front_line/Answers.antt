@@ -13,7 +13,8 @@ pub returns-in-13-clause-one : goal.returns-in-13-clause-one
 returns-in-13-clause-one c =
     let bytes = c.args.bytes.now in
     let n = c.in_ok-row.row.len in
-    let rest : take (length bytes - n) (drop n bytes) ≡ drop n bytes = take_all (length bytes - n) (drop n bytes) (simp length-drop (omega arith)) in
+    let rest : take (length bytes - n) (drop n bytes) ≡ drop n bytes =
+    take_all (length bytes - n) (drop n bytes) (simp length-drop (omega arith)) in
     let long = simp (rest, length-drop) at c.in-13.len_at_least in
     let back : get_or (take (length bytes - n) (drop n bytes)) 0 0 ≡ 13 = search rules in
     return_no_end bytes n c.in_ok-row.row.entry (with_return bytes n (omega arith) back) c.in_ok-row.ensures.1
@@ -22,7 +23,8 @@ pub returns-in-13-clause-entry : goal.returns-in-13-clause-entry
 returns-in-13-clause-entry c =
     let bytes = c.args.bytes.now in
     let n = c.in_ok-row.row.len in
-    let rest : take (length bytes - n) (drop n bytes) ≡ drop n bytes = take_all (length bytes - n) (drop n bytes) (simp length-drop (omega arith)) in
+    let rest : take (length bytes - n) (drop n bytes) ≡ drop n bytes =
+    take_all (length bytes - n) (drop n bytes) (simp length-drop (omega arith)) in
     let long = simp (rest, length-drop) at c.in-13.len_at_least in
     let back : get_or (take (length bytes - n) (drop n bytes)) 0 0 ≡ 13 = search rules in
     return_line bytes n c.in_ok-row.row.entry (with_return bytes n (omega arith) back) c.in_ok-row.ensures.1

@@ -20,7 +20,8 @@ pub returns-then-not-found-clause-ok : goal.returns-then-not-found-clause-ok
 returns-then-not-found-clause-ok c =
     let b = begun (goal.at.returns-then-not-found-clause-ok c).After-from_reader-reader in
     let read = rw c.if-not-found.true at (c.in-Ok.ensures.reads b.trim b.ready) in
-    sym (ap rows_in (read_nothing c.from_reader-reader.result c.read_byte_record.new.self c.args.line.now (fields_of c.read_byte_record.new.row) b read))
+    sym (ap rows_in
+    (read_nothing c.from_reader-reader.result c.read_byte_record.new.self c.args.line.now (fields_of c.read_byte_record.new.row) b read))
 
 pub returns-then-more-clause-ok : goal.returns-then-more-clause-ok
 returns-then-more-clause-ok c =

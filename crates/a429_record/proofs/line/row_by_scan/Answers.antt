@@ -7,7 +7,8 @@ returns-in_default c = no_row c.args.text.now (fields_of c.next_record.new.row) 
 
 pub returns-in-Some-second : goal.returns-in-Some-second
 returns-in-Some-second c =
-    several_rows c.args.text.now (fields_of c.next_record.new.row) (fields_of c.next_record-2.new.row) c.in-Some.end c.in-Some-second.field-0
+    several_rows c.args.text.now (fields_of c.next_record.new.row)
+    (fields_of c.next_record-2.new.row) c.in-Some.end c.in-Some-second.field-0
     (rw c.in-Some.is at c.in_ok-end.ensures) (rw c.in-Some-second.is at c.in_ok-second.ensures)
 
 pub returns-in-None : goal.returns-in-None

@@ -10,7 +10,8 @@ use Rattle.a429_record.proofs.packing.put_binary.Goals as goal
 
 -- the form of some entries, and then the bytes of more
 following : (front more : List Entry) → binary_form (front ++ more) ≡ binary_form front ++ flat_map entry_piece more
-following front more = ap (λ (l : List ℕ). magic ++ l) (flat_map-append entry_piece front more) ∙ sym (append_assoc magic (flat_map entry_piece front) (flat_map entry_piece more))
+following front more = ap (λ (l : List ℕ). magic ++ l) (flat_map-append entry_piece front more)
+    ∙ sym (append_assoc magic (flat_map entry_piece front) (flat_map entry_piece more))
 
 pub groups-init : goal.groups-init
 groups-init g c = ([], refl, c.put.ensures)
@@ -21,8 +22,10 @@ groups-preserved g c =
     let front : List Entry = inv.0 in
     let group = c.split_at.result.0.now in
     let more = c.split_at.result.1.now in
-    let parts : group ++ more ≡ c.groups.rest.now = rw (c.split_at.ensures.front, c.split_at.ensures.back) (take-append-drop c.min.result c.groups.rest.now) in
-    let all : c.args.entries.now ≡ (front ++ group) ++ more = inv.1 ∙ ap (λ (l : List Entry). front ++ l) (sym parts) ∙ sym (append_assoc front group more) in
+    let parts : group ++ more ≡ c.groups.rest.now =
+    rw (c.split_at.ensures.front, c.split_at.ensures.back) (take-append-drop c.min.result c.groups.rest.now) in
+    let all : c.args.entries.now ≡ (front ++ group) ++ more =
+    inv.1 ∙ ap (λ (l : List Entry). front ++ l) (sym parts) ∙ sym (append_assoc front group more) in
     (front ++ group, all, rw (following front group) (inv.2 ▹ c.put_group.ensures))
 
 -- the entries that are left are not written

@@ -5,7 +5,8 @@ use Rattle.a429_record.specs.Binary.{binary_form}
 use Rattle.a429_record.proofs.packing.put_binary.Given as goal
 
 abbrev pub invariant-groups : goal.invariant-groups
-invariant-groups g l = (front : List Entry) × (l.fn.entries ≡ front ++ l.rest) × Says g.W.Write.contents l.fn.sheet l.sheet (binary_form front)
+invariant-groups g l =
+    (front : List Entry) × (l.fn.entries ≡ front ++ l.rest) × Says g.W.Write.contents l.fn.sheet l.sheet (binary_form front)
 
 abbrev pub decreases-groups : goal.decreases-groups
 decreases-groups g l = length l.rest

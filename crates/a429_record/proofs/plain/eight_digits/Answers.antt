@@ -12,4 +12,5 @@ returns-clause-digits c =
     rw (eight xs long) (high.0, (high.1.0, (high.1.1.0, (high.1.1.1.0, c.are_digits-low.ensures.0 second))))
 
 pub returns-clause-number : goal.returns-clause-number
-returns-clause-number c = rw (eight c.args.bytes.now (omega arith)) (omega (arith, c.number_of_four-thousands.ensures.value, c.number_of_four.ensures.value))
+returns-clause-number c =
+    rw (eight c.args.bytes.now (omega arith)) (omega (arith, c.number_of_four-thousands.ensures.value, c.number_of_four.ensures.value))

@@ -7,7 +7,8 @@ pub returns-clause-front : goal.returns-clause-front
 returns-clause-front c =
     let bytes = c.args.bytes.now in
     let n = c.leading_number-time.result.len in
-    let rest : take (length bytes - n) (drop n bytes) ≡ drop n bytes = take_all (length bytes - n) (drop n bytes) (simp length-drop (omega arith)) in
+    let rest : take (length bytes - n) (drop n bytes) ≡ drop n bytes =
+    take_all (length bytes - n) (drop n bytes) (simp length-drop (omega arith)) in
     let following = simp (rest, length-drop) at c.if-rest-lt-AFTER_TIME.false in
     let long : n + 11 ≤ length bytes = omega arith in
     let bus = rw (c.in_ok-bus_of.was, rest) at c.bus_of.ensures in

@@ -7,12 +7,18 @@ use Rattle.a429_record.proofs.plain.leading_number.Goals as goal
 
 pub overflow_mul-number : goal.overflow_mul-number
 overflow_mul-number c =
-    omega (arith, room c.digits.len c.digits.number c.args.bytes.now (omega arith) (omega arith) c.digits.invariant.number c.digits.invariant.digits)
+    omega (
+      arith,
+      room c.digits.len c.digits.number c.args.bytes.now (omega arith) (omega arith) c.digits.invariant.number c.digits.invariant.digits,
+    )
 
 pub overflow_add-number : goal.overflow_add-number
 overflow_add-number c =
     let small : digit_value (get_or c.args.bytes.now c.digits.len 0) < 10 = grind (arith, common_steps) in
-    omega (arith, room c.digits.len c.digits.number c.args.bytes.now (omega arith) (omega arith) c.digits.invariant.number c.digits.invariant.digits)
+    omega (
+      arith,
+      room c.digits.len c.digits.number c.args.bytes.now (omega arith) (omega arith) c.digits.invariant.number c.digits.invariant.digits,
+    )
 
 pub digits-preserved : goal.digits-preserved
 digits-preserved c =

@@ -25,8 +25,14 @@ entries-preserved g c =
     let following = pending_of g.R.Read.remaining c.next.new.self.rows.lines c.next.new.rec in
     record {
       given = given_more bytes left rest before c.push.new.self.items e items gives c.entries.invariant.given;
-      lines = rw at_rows (given_more_at c.entries.reading.stage c.entries.reading.rows.format c.next.new.self.rows.format before c.push.new.self.items e bytes ahead following items format c.entries.invariant.lines lines);
-      format = rw at_rows (form_at c.entries.reading.stage c.entries.reading.rows.format c.next.new.self.rows.format before bytes ahead c.entries.invariant.lines c.entries.invariant.format format);
+      lines =
+          rw at_rows
+          (given_more_at c.entries.reading.stage c.entries.reading.rows.format c.next.new.self.rows.format before c.push.new.self.items e
+          bytes ahead following items format c.entries.invariant.lines lines);
+      format =
+          rw at_rows
+          (form_at c.entries.reading.stage c.entries.reading.rows.format c.next.new.self.rows.format before bytes ahead
+          c.entries.invariant.lines c.entries.invariant.format format);
       most = rw follows.3 c.entries.invariant.most;
       times = rw items (NeverFalls-push 0 before e c.entries.invariant.times late);
       last = rw items (last_time-push 0 before e ∙ sym follows.1);
@@ -39,7 +45,11 @@ pub returns-in_err-entry-clause-before : goal.returns-in_err-entry-clause-before
 returns-in_err-entry-clause-before g c failed =
     let es = c.entries.entries.items in
     let few : length es ≤ c.entries.reading.rows.most = omega (arith, c.entries.invariant.count, c.entries.reading.rows.in_range) in
-    let lost = failed_at c.entries.reading.rows.most c.entries.reading.stage c.entries.reading.rows.format es c.entries.reading.rows.count _ _ _ (few, c.entries.invariant.times) c.entries.invariant.count c.entries.invariant.format c.entries.invariant.lines (c.in_err-entry.ensures.before (search rules)) in
+    let lost =
+    failed_at c.entries.reading.rows.most c.entries.reading.stage c.entries.reading.rows.format es c.entries.reading.rows.count _ _ _ (
+      few,
+      c.entries.invariant.times,
+    ) c.entries.invariant.count c.entries.invariant.format c.entries.invariant.lines (c.in_err-entry.ensures.before (search rules)) in
     rw c.entries.invariant.most at lost
 
 pub returns-then-is_err-clause-before : goal.returns-then-is_err-clause-before

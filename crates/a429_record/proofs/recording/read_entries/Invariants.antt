@@ -13,8 +13,10 @@ use Rattle.a429_record.proofs.recording.read_entries.Given as goal
 
 abbrev pub invariant-entries : goal.invariant-entries
 invariant-entries g l = record {
-  given : Given (unread g.R.Read.remaining l.fn.rec) l.entries.items (still_to_come g.R.Read.remaining l.reading.stage l.reading.rows l.rec);
-  lines : Loses (AreGivenAt l.reading.stage l.reading.rows.format l.entries.items) (unread g.R.Read.remaining l.fn.rec) (pending_of g.R.Read.remaining l.reading.rows.lines l.rec);
+  given : Given (unread g.R.Read.remaining l.fn.rec) l.entries.items
+      (still_to_come g.R.Read.remaining l.reading.stage l.reading.rows l.rec);
+  lines : Loses (AreGivenAt l.reading.stage l.reading.rows.format l.entries.items) (unread g.R.Read.remaining l.fn.rec)
+      (pending_of g.R.Read.remaining l.reading.rows.lines l.rec);
   format : IsFormOf l.reading.stage (unread g.R.Read.remaining l.fn.rec) l.reading.rows.format;
   most : l.reading.rows.most ≡ most_entries;
   times : NeverFalls 0 l.entries.items;

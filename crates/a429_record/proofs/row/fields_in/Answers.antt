@@ -13,4 +13,5 @@ returns-in_default-get-2-clause-none c n = missing _ 2 n (lit< tt) (rw c.in_defa
 
 pub returns-clause-some : goal.returns-clause-some
 returns-clause-some c =
-    three _ _ _ _ (sym c.len.ensures ∙ c.if-len-ne3.false) (rw c.in-Some.is at c.get.ensures.value) (rw c.in-Some-get.is at c.get-2.ensures.value) (rw c.in-Some-get-2.is at c.get-3.ensures.value)
+    three _ _ _ _ (sym c.len.ensures ∙ c.if-len-ne3.false) (rw c.in-Some.is at c.get.ensures.value)
+    (rw c.in-Some-get.is at c.get-2.ensures.value) (rw c.in-Some-get-2.is at c.get-3.ensures.value)

@@ -4,12 +4,14 @@ use Rattle.a429_record.proofs.RowDigits.{not_front-time_in, front_above-time_in,
 use Rattle.a429_record.proofs.row.time_of.Goals as goal
 
 pub returns-in_err-number_of : goal.returns-in_err-number_of
-returns-in_err-number_of c = c.from_residual.ensures ∙ not_front-time_in c.args.text.now (length c.args.text.now - 1) c.in_err-number_of.ensures.none
+returns-in_err-number_of c =
+    c.from_residual.ensures ∙ not_front-time_in c.args.text.now (length c.args.text.now - 1) c.in_err-number_of.ensures.none
 
 pub returns-in_err-tens : goal.returns-in_err-tens
 returns-in_err-tens c =
     c.from_residual-in_err-tens.ensures
-    ∙ front_above-time_in c.args.text.now (length c.args.text.now - 1) c.in_ok-number_of.field-0 (omega arith) c.in_ok-number_of.ensures.some.1 c.in_err-tens.ensures
+    ∙ front_above-time_in c.args.text.now (length c.args.text.now - 1) c.in_ok-number_of.field-0
+    (omega arith) c.in_ok-number_of.ensures.some.1 c.in_err-tens.ensures
 
 pub returns : goal.returns
 returns c =

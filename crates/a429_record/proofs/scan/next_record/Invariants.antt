@@ -7,6 +7,7 @@ use Rattle.a429_record.proofs.scan.next_record.Given as goal
 
 abbrev pub invariant-bytes : goal.invariant-bytes
 invariant-bytes l = record {
-  reads : Machine.next_record default_config (state_of l.fn.place) [] [] l.bytes ≡ Machine.next_record default_config (state_of l.place) (fields_of l.row) l.field.items (drop l.at l.bytes);
+  reads : Machine.next_record default_config (state_of l.fn.place) [] [] l.bytes
+      ≡ Machine.next_record default_config (state_of l.place) (fields_of l.row) l.field.items (drop l.at l.bytes);
   partial : partial_of l.row ≡ [];
 }

@@ -14,4 +14,5 @@ loop-entry-preserved g c =
 pub returns-then-failed : goal.returns-then-failed
 returns-then-failed g c =
     let rest = flat_map line_text (drop c.loop-entry.entry-index c.args.entries.now) in
-    rw (flat_map-rest line_text c.args.entries.now c.loop-entry.entry-index) at (c.loop-entry.invariant ▹ says_after_failure _ _ rest (sym c.failed.ensures ∙ c.if-failed.true))
+    rw (flat_map-rest line_text c.args.entries.now c.loop-entry.entry-index) at (c.loop-entry.invariant
+    ▹ says_after_failure _ _ rest (sym c.failed.ensures ∙ c.if-failed.true))

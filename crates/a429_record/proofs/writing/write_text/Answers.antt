@@ -11,8 +11,10 @@ no_lines es = ap (λ (t : List ℕ). header_text ++ t) (append-nil (flat_map lin
 
 pub returns-clause-ok : goal.returns-clause-ok
 returns-clause-ok g c =
-    subst (λ (form : List ℕ). OnOk c.write_lines.result (Puts g.W.Write.contents c.args.out.now c.write_lines.new.out form)) (no_lines c.args.entries.now) c.write_lines.ensures.ok
+    subst (λ (form : List ℕ). OnOk c.write_lines.result (Puts g.W.Write.contents c.args.out.now c.write_lines.new.out form))
+    (no_lines c.args.entries.now) c.write_lines.ensures.ok
 
 pub returns-clause-prefix : goal.returns-clause-prefix
 returns-clause-prefix g c =
-    subst (λ (form : List ℕ). PutsFront g.W.Write.contents c.args.out.now c.write_lines.new.out form) (no_lines c.args.entries.now) c.write_lines.ensures.prefix
+    subst (λ (form : List ℕ). PutsFront g.W.Write.contents c.args.out.now c.write_lines.new.out form)
+    (no_lines c.args.entries.now) c.write_lines.ensures.prefix

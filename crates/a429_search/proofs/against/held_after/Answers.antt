@@ -32,8 +32,10 @@ loop-entry-preserved c =
     let saw = subst (λ (q : Contents). Allows q o i → v.witness.observer ≡ sees q i o) is (e.observer no) may in
     watches_more p items n i x o v.witness.observer s v.witness.so_far w.witness.parts v.witness.parts w.sink v.sink w.acked v.acked
     c.seen-seen.ensures refl h
-    (witnesses_more p items n i x o v.witness.observer s v.witness.so_far w.witness.parts v.witness.parts (record { item = c.seen-seen.ensures; form_is = refl }) h.known saw
-    (subst (λ (q : Contents). unheard v.witness.so_far ≡ unheard (so_far_after i.bus i.word (form_of q.codes i.bus i.word) s)) is (e.so_far no))
+    (witnesses_more p items n i x o v.witness.observer s v.witness.so_far w.witness.parts v.witness.parts
+    (record { item = c.seen-seen.ensures; form_is = refl }) h.known saw
+    (subst (λ (q : Contents). unheard v.witness.so_far ≡ unheard (so_far_after i.bus i.word (form_of q.codes i.bus i.word) s)) is
+    (e.so_far no))
     (subst (λ (q : Contents). v.witness.parts ≡ data_after i.bus i.word (form_of q.codes i.bus i.word) w.witness.parts) is (e.parts no))
     (subst (λ (q : Contents). (reason : Reason) → ¬ Contradicts q o s i.bus i.word (form_of q.codes i.bus i.word) reason) is (e.none no)))
     saw
@@ -49,13 +51,17 @@ returns c =
     let o = w.witness.observer in
     let s = w.witness.so_far in
     let i = c.args.seen in
-    let end : c.loop-entry.entry ≡ length items = omega (arith, c.loop-entry-test.false, c.loop-entry.auto.entry-end, c.len-entry-end.ensures) in
+    let end : c.loop-entry.entry ≡ length items =
+    omega (arith, c.loop-entry-test.false, c.loop-entry.auto.entry-end, c.len-entry-end.ensures) in
     let all = subst (λ m. Watches p items m o s w.witness.parts w.sink w.acked) end c.loop-entry.invariant in
-    let form = subst (λ (q : Contents). c.form_of-form.result ≡ form_of q.codes i.bus i.word) c.profile-profile.ensures.is c.form_of-form.ensures in
+    let form =
+    subst (λ (q : Contents). c.form_of-form.result ≡ form_of q.codes i.bus i.word) c.profile-profile.ensures.is c.form_of-form.ensures in
     each_some c.held.result
     (λ a h. (
       h.0,
-      subst (λ (x : Option Form). HoldsForm p (known_by (implied p items implied_at_first) (observed p items at_first) (so_far p items)) items i.bus i.word x a) form
+      subst (λ (x : Option Form).
+          HoldsForm p (known_by (implied p items implied_at_first) (observed p items at_first) (so_far p items)) items i.bus i.word x a)
+          form
           (holds_after p items o s w.witness.parts w.sink w.acked i.bus i.word c.form_of-form.result a all h.1),
     ))
     c.held.ensures

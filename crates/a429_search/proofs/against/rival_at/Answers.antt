@@ -7,4 +7,7 @@ use Rattle.a429_search.proofs.against.rival_at.Goals as goal
 pub returns-in_ok-found-in-Ok : goal.returns-in_ok-found-in-Ok
 returns-in_ok-found-in-Ok c =
     let es = c.args.entries.now in
-    rw c.as_against.ensures (rival_of_entries c.args.profile.now es c.args.entry c.in-Ok.decoded (get_or es c.args.entry (record { time = 0; bus = bus.A; word = 0 })) c.in_ok-found-in-Ok.found c.in-Ok.ensures.decoded (slice_get-get_or es c.args.entry (record { time = 0; bus = bus.A; word = 0 }) c.requires) c.in_ok-found-in-Ok.ensures)
+    rw c.as_against.ensures
+    (rival_of_entries c.args.profile.now es c.args.entry c.in-Ok.decoded
+    (get_or es c.args.entry (record { time = 0; bus = bus.A; word = 0 })) c.in_ok-found-in-Ok.found c.in-Ok.ensures.decoded
+    (slice_get-get_or es c.args.entry (record { time = 0; bus = bus.A; word = 0 }) c.requires) c.in_ok-found-in-Ok.ensures)

@@ -6,7 +6,9 @@ use Rattle.a429_search.proofs.attempts.attempt_of.Goals as goal
 
 pub loop-at-init : goal.loop-at-init
 loop-at-init c =
-    asked_first c.args.decoded.now.profile c.args.decoded.now.items c.args.from c.in-Some.count c.new-attempt.result (omega (arith, c.requires.some, c.requires.inside)) (sym c.in-Some.is ∙ c.requested.ensures) (c.new-attempt.ensures c.args.decoded.now.profile.codes)
+    asked_first c.args.decoded.now.profile c.args.decoded.now.items c.args.from c.in-Some.count c.new-attempt.result
+    (omega (arith, c.requires.some, c.requires.inside)) (sym c.in-Some.is ∙ c.requested.ensures)
+    (c.new-attempt.ensures c.args.decoded.now.profile.codes)
 
 pub loop-at-preserved : goal.loop-at-preserved
 loop-at-preserved c =
@@ -14,8 +16,11 @@ loop-at-preserved c =
     let items = c.args.decoded.now.items in
     let n = c.loop-at.at in
     let none = sym c.is_some.ensures ∙ c.if-is_some.false in (
-      closed_on p items n c.requested-in-loop-at.result (omega (arith, c.loop-at-test.true, c.requires.inside)) c.requested-in-loop-at.ensures none ∙ c.loop-at.invariant.0,
-      recorded_on p items n c.requested-in-loop-at.result c.seen-seen.result c.word.result c.loop-at.attempt c.take.new.self c.requested-in-loop-at.ensures none c.seen-seen.ensures c.word.ensures.is c.in_ok-take.ensures c.loop-at.invariant.1,
+      closed_on p items n c.requested-in-loop-at.result
+          (omega (arith, c.loop-at-test.true, c.requires.inside)) c.requested-in-loop-at.ensures none
+          ∙ c.loop-at.invariant.0,
+      recorded_on p items n c.requested-in-loop-at.result c.seen-seen.result c.word.result c.loop-at.attempt c.take.new.self
+          c.requested-in-loop-at.ensures none c.seen-seen.ensures c.word.ensures.is c.in_ok-take.ensures c.loop-at.invariant.1,
     )
 
 pub returns : goal.returns

@@ -12,17 +12,21 @@ carried a = sym a.in_ok-bytes.ensures.computed ∙ ap (option_map (λ (v : Vec �
 
 check_made : (a : After-check_word_by-check) → a.check_word_by-check.result ≡ check_of a.args.profile.now.check a.in-Some.bytes.items
 check_made a =
-    a.check_word_by-check.ensures ∙ ap (λ (r : Check). check_of r a.deref.result.now) a.check_tables.ensures ∙ ap (check_of a.args.profile.now.check) a.deref.ensures.value
+    a.check_word_by-check.ensures ∙ ap (λ (r : Check). check_of r a.deref.result.now) a.check_tables.ensures
+    ∙ ap (check_of a.args.profile.now.check) a.deref.ensures.value
 
 pub returns-then-is_some-clause-check : goal.returns-then-is_some-clause-check
-returns-then-is_some-clause-check c = recorded c.args.profile.now c.codes-codes.ensures.sound c.args.words.now c.args.recorded c.requires.fits
+returns-then-is_some-clause-check c =
+    recorded c.args.profile.now c.codes-codes.ensures.sound c.args.words.now c.args.recorded c.requires.fits
 
 pub returns-clause-check : goal.returns-clause-check
 returns-clause-check c =
     let a = (goal.at.returns-clause-check c).After-check_word_by-check in
-    made c.args.profile.now c.codes-codes.ensures.sound c.args.words.now c.in-Some.bytes.items c.check_word_by-check.result (carried a) (check_made a)
+    made c.args.profile.now c.codes-codes.ensures.sound c.args.words.now c.in-Some.bytes.items c.check_word_by-check.result (carried a)
+    (check_made a)
 
 pub returns-clause-made : goal.returns-clause-made
 returns-clause-made c =
     let a = (goal.at.returns-clause-made c).After-check_word_by-check in
-    end_made c.args.profile.now c.args.words.now c.in-Some.bytes.items c.args.recorded (record { flags = 0; check = c.check_word_by-check.result }) (carried a) refl (check_made a)
+    end_made c.args.profile.now c.args.words.now c.in-Some.bytes.items c.args.recorded
+    (record { flags = 0; check = c.check_word_by-check.result }) (carried a) refl (check_made a)

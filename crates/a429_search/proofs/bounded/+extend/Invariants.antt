@@ -12,4 +12,6 @@ abbrev pub invariant-loop-step : goal.invariant-loop-step
 invariant-loop-step l =
     (l.path.merged.items ≡ l.fn.path.merged.items) ×
     (l.fn.budget.is_cut ≡ true → l.budget.is_cut ≡ true) ×
-    (l.budget.is_cut ≡ false → (k : ℕ) (d : Step) → k < l.step-index → IsHopeless l.search.profile.now l.search.wanted.count l.search.wanted.check (lists_of l.search.lists.now) (get_or l.step-items k d).passed.items (l.fn.path.merged.items ++ (get_or l.step-items k d).word ∷ []))
+    (l.budget.is_cut ≡ false → (k : ℕ) (d : Step) → k < l.step-index
+    → IsHopeless l.search.profile.now l.search.wanted.count l.search.wanted.check (lists_of l.search.lists.now)
+    (get_or l.step-items k d).passed.items (l.fn.path.merged.items ++ (get_or l.step-items k d).word ∷ []))

@@ -15,5 +15,6 @@ loop-pair-preserved c zs has =
     let are : All (IsPair L) items = subst (All (IsPair L)) (sym c.deref-pair-items.ensures.value) c.args.search.now.are_pairs in
     let pair : IsPair L p = subst (IsPair L) (sym c.pair-item.is) (are k p c.loop-pair-test.true) in
     let both : c.length_from-both.result ≤ length zs =
-    rw (c.length_from-both.ensures, c.words_at-left.ensures, c.words_at-right.ensures) (least zs (rest p.left) (rest p.right) (has p.left pair.in_left) (has p.right pair.in_right)) in
+    rw (c.length_from-both.ensures, c.words_at-left.ensures, c.words_at-right.ensures)
+    (least zs (rest p.left) (rest p.right) (has p.left pair.in_left) (has p.right pair.in_right)) in
     omega (arith, both, c.max-least.ensures, c.from.ensures, c.loop-pair.invariant zs has)

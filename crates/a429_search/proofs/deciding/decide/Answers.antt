@@ -4,13 +4,15 @@ use Rattle.a429_link.specs.declared.seen.Seen.{Seen}
 use Rattle.a429_cert.specs.Explained.{items_of, seen_of}
 use Rattle.a429_cert.proofs.ExplainedFacts.{in_some_run}
 use Rattle.a429_explain.specs.declared.verdict.Verdict.{Verdict}
-use Rattle.a429_explain.specs.Verdict.{IsFirst, IsImpossible, IsSoundVerdict}
+use Rattle.a429_explain.specs.declared.explanation.Refusal.{Refusal}
+use Rattle.a429_explain.specs.Explanation.{IsWhyNotWritten}
+use Rattle.a429_explain.specs.Verdict.{IsDoubted, IsFirst, IsImpossible, IsSoundVerdict}
 use Rattle.a429_explain.specs.Walk.{AreAllowedUpTo}
 use Rattle.a429_search.specs.declared.contradiction.Contradiction.{Contradiction}
 use Rattle.a429_search.specs.declared.deciding.Judged.{Judged}
 use Rattle.a429_search.specs.Contradiction.{ContradictsAt, HasNoContradiction}
 use Rattle.a429_search.specs.Deciding.{IsJudged, IsNoRun}
-use Rattle.a429_search.proofs.DecidingFacts.{allowed_first, at_least, explained_none, first_by, found_first, first_of_refused, impossible_by, no_reason_at_all, none_first}
+use Rattle.a429_search.proofs.DecidingFacts.{allowed_first, at_least, doubt_of_check, ended_inside, explained_none, first_by, found_first, first_of_refused, impossible_by, no_reason_at_all, none_first}
 use Rattle.a429_search.proofs.deciding.decide.Goals as goal
 
 pub earlier-requires : goal.earlier-requires
@@ -19,7 +21,8 @@ earlier-requires c =
     let items = items_of c.args.entries.now in
     let n = c.in-Ok-Impossible.entry in
     let refused = subst (λ (v : Verdict). IsFirst p items v) c.in-Ok-Impossible.field-0-is c.in-Ok-Impossible.ensures.first in
-    subst (λ (xs : List Seen). AreAllowedUpTo p xs (length xs)) (take-map seen_of n c.args.entries.now) (allowed_first p items n refused.before)
+    subst (λ (xs : List Seen). AreAllowedUpTo p xs (length xs)) (take-map seen_of n c.args.entries.now)
+    (allowed_first p items n refused.before)
 
 pub returns-in-Ok-Explained-clause-first : goal.returns-in-Ok-Explained-clause-first
 returns-in-Ok-Explained-clause-first c =
@@ -38,8 +41,10 @@ returns-in-Ok-Some-clause-impossible c =
     let found = c.in-Ok-Some.field-0-0 in
     let refused = subst (λ (v : Verdict). IsFirst p items v) c.in-Ok-Impossible.field-0-is c.in-Ok-Impossible.ensures.first in
     let is = subst (λ (v : Verdict). IsImpossible p items v) c.in-Ok-Impossible.field-0-is c.in-Ok-Impossible.ensures.impossible in
-    let none = subst (λ (o : Option Contradiction). IfSome o (IsNoRun p (items_of (take n es)))) c.in-Ok-Some.field-0-is c.in-Ok-Some.ensures.some in
-    impossible_by p items n found refused.before (found_first p items n found (omega (arith, is.0)) (subst (λ (xs : List Seen). IsNoRun p xs found) (sym (take-map seen_of n es)) none))
+    let none =
+    subst (λ (o : Option Contradiction). IfSome o (IsNoRun p (items_of (take n es)))) c.in-Ok-Some.field-0-is c.in-Ok-Some.ensures.some in
+    impossible_by p items n found refused.before
+    (found_first p items n found (omega (arith, is.0)) (subst (λ (xs : List Seen). IsNoRun p xs found) (sym (take-map seen_of n es)) none))
 
 pub returns-in-Ok-Some-clause-first : goal.returns-in-Ok-Some-clause-first
 returns-in-Ok-Some-clause-first c =
@@ -50,8 +55,10 @@ returns-in-Ok-Some-clause-first c =
     let found = c.in-Ok-Some.field-0-0 in
     let refused = subst (λ (v : Verdict). IsFirst p items v) c.in-Ok-Impossible.field-0-is c.in-Ok-Impossible.ensures.first in
     let is = subst (λ (v : Verdict). IsImpossible p items v) c.in-Ok-Impossible.field-0-is c.in-Ok-Impossible.ensures.impossible in
-    let none = subst (λ (o : Option Contradiction). IfSome o (IsNoRun p (items_of (take n es)))) c.in-Ok-Some.field-0-is c.in-Ok-Some.ensures.some in
-    first_by p items n found refused.before (found_first p items n found (omega (arith, is.0)) (subst (λ (xs : List Seen). IsNoRun p xs found) (sym (take-map seen_of n es)) none))
+    let none =
+    subst (λ (o : Option Contradiction). IfSome o (IsNoRun p (items_of (take n es)))) c.in-Ok-Some.field-0-is c.in-Ok-Some.ensures.some in
+    first_by p items n found refused.before
+    (found_first p items n found (omega (arith, is.0)) (subst (λ (xs : List Seen). IsNoRun p xs found) (sym (take-map seen_of n es)) none))
 
 pub returns-in-Ok-None-clause-impossible : goal.returns-in-Ok-None-clause-impossible
 returns-in-Ok-None-clause-impossible c =
@@ -59,8 +66,14 @@ returns-in-Ok-None-clause-impossible c =
     let items = items_of c.args.entries.now in
     let n = c.in-Ok-Impossible.entry in
     let refused = subst (λ (v : Verdict). IsFirst p items v) c.in-Ok-Impossible.field-0-is c.in-Ok-Impossible.ensures.first in
-    let is = subst (λ (v : Verdict). IsImpossible p items v) c.in-Ok-Impossible.field-0-is c.in-Ok-Impossible.ensures.impossible in
-    (is.0, inl (inl (refused.refused, is.1), first_of_refused p.codes (slice_get items n) (ContradictsAt p items n) c.in-Ok-Impossible.reason is.1), is.2)
+    let is = subst (λ (v : Verdict). IsImpossible p items v) c.in-Ok-Impossible.field-0-is c.in-Ok-Impossible.ensures.impossible in (
+      is.0,
+      inl (
+        inl (refused.refused, is.1),
+        first_of_refused p.codes (slice_get items n) (ContradictsAt p items n) c.in-Ok-Impossible.reason is.1,
+      ),
+      is.2,
+    )
 
 pub returns-in-Ok-None-clause-first : goal.returns-in-Ok-None-clause-first
 returns-in-Ok-None-clause-first c =
@@ -71,7 +84,9 @@ returns-in-Ok-None-clause-first c =
     let refused = subst (λ (v : Verdict). IsFirst p items v) c.in-Ok-Impossible.field-0-is c.in-Ok-Impossible.ensures.first in
     let is = subst (λ (v : Verdict). IsImpossible p items v) c.in-Ok-Impossible.field-0-is c.in-Ok-Impossible.ensures.impossible in
     let none = c.in-Ok-None.ensures.none (ap (λ (o : Option Contradiction). Ok o) c.in-Ok-None.field-0-is) in
-    at_least p items n refused.before (none_first p items n (omega (arith, is.0)) (subst (λ (xs : List Seen). HasNoContradiction p xs (length xs)) (sym (take-map seen_of n es)) none))
+    at_least p items n refused.before
+    (none_first p items n (omega (arith, is.0))
+    (subst (λ (xs : List Seen). HasNoContradiction p xs (length xs)) (sym (take-map seen_of n es)) none))
 
 pub returns-in-Ok-clause-some_run : goal.returns-in-Ok-clause-some_run
 returns-in-Ok-clause-some_run c =
@@ -79,7 +94,9 @@ returns-in-Ok-clause-some_run c =
 
 pub returns-in-Ok-clause-of_check : goal.returns-in-Ok-clause-of_check
 returns-in-Ok-clause-of_check c =
-    inr (record { entry = c.in-Ok-Unexplained.entry; doubt = c.in-Ok-Unexplained.doubt; is = subst (λ (v : Verdict). IsFirst c.args.profile.now (items_of c.args.entries.now) v) c.in-Ok-Unexplained.field-0-is c.in-Ok-Unexplained.ensures.first })
+    inr (doubt_of_check c.args.profile.now (items_of c.args.entries.now) c.in-Ok-Unexplained.entry _
+    (subst (λ (v : Verdict). IsFirst c.args.profile.now (items_of c.args.entries.now) v) c.in-Ok-Unexplained.field-0-is
+    c.in-Ok-Unexplained.ensures.first))
 
 pub returns-in-Ok-clause-first : goal.returns-in-Ok-clause-first
 returns-in-Ok-clause-first c =
@@ -97,10 +114,48 @@ returns-in-Err-NotReplayed-clause-first c =
     let none = subst (λ (j : Judged). IsJudged p items j) c.in-Ok-Guessed.field-0-is c.in-Ok-Guessed.ensures in
     no_reason_at_all p items (doubt.0, none.1)
 
-pub returns-in-Ok-Nothing-clause-first : goal.returns-in-Ok-Nothing-clause-first
-returns-in-Ok-Nothing-clause-first c =
+pub returns-in-Err-NotReplayed-clause-left_open : goal.returns-in-Err-NotReplayed-clause-left_open
+returns-in-Err-NotReplayed-clause-left_open c =
+    let p = c.args.profile.now in
+    let items = items_of c.args.entries.now in
+    let why =
+    subst (λ (r : Refusal). IsWhyNotWritten p items c.in-Ok-Guessed.guess r) c.in-Err-NotReplayed.field-0-is
+    c.in-Err-NotReplayed.ensures.refused in
+    why.1
+
+pub returns-in-Err-NotReplayed-clause-doubted : goal.returns-in-Err-NotReplayed-clause-doubted
+returns-in-Err-NotReplayed-clause-doubted c =
+    let p = c.args.profile.now in
+    let items = items_of c.args.entries.now in
+    let why =
+    subst (λ (r : Refusal). IsWhyNotWritten p items c.in-Ok-Guessed.guess r) c.in-Err-NotReplayed.field-0-is
+    c.in-Err-NotReplayed.ensures.refused in
+    why.0
+
+pub returns-in-Err-NotReplayed-clause-of_check : goal.returns-in-Err-NotReplayed-clause-of_check
+returns-in-Err-NotReplayed-clause-of_check c =
+    doubt_of_check c.args.profile.now (items_of c.args.entries.now) c.in-Ok-Unexplained.entry _
+    (subst (λ (v : Verdict). IsFirst c.args.profile.now (items_of c.args.entries.now) v) c.in-Ok-Unexplained.field-0-is
+    c.in-Ok-Unexplained.ensures.first)
+
+pub returns-in-Ok-CutShort-clause-first : goal.returns-in-Ok-CutShort-clause-first
+returns-in-Ok-CutShort-clause-first c =
     let p = c.args.profile.now in
     let items = items_of c.args.entries.now in
     let doubt = subst (λ (v : Verdict). IsFirst p items v) c.in-Ok-Unexplained.field-0-is c.in-Ok-Unexplained.ensures.first in
-    let none = subst (λ (j : Judged). IsJudged p items j) c.in-Ok-Nothing.field-0-is c.in-Ok-Nothing.ensures in
-    no_reason_at_all p items (doubt.0, none)
+    let none = subst (λ (j : Judged). IsJudged p items j) c.in-Ok-CutShort.field-0-is c.in-Ok-CutShort.ensures in
+    no_reason_at_all p items (doubt.0, none.1)
+
+pub returns-in-Ok-CutShort-clause-doubted : goal.returns-in-Ok-CutShort-clause-doubted
+returns-in-Ok-CutShort-clause-doubted c =
+    let p = c.args.profile.now in
+    let items = items_of c.args.entries.now in
+    let doubt = subst (λ (v : Verdict). IsDoubted p items v) c.in-Ok-Unexplained.field-0-is c.in-Ok-Unexplained.ensures.doubted in
+    let cut = subst (λ (j : Judged). IsJudged p items j) c.in-Ok-CutShort.field-0-is c.in-Ok-CutShort.ensures in
+    ended_inside p.codes items c.in-Ok-CutShort.at c.in-Ok-Unexplained.entry _ cut.0 doubt c.unwrap_or.ensures
+
+pub returns-in-Ok-CutShort-clause-of_check : goal.returns-in-Ok-CutShort-clause-of_check
+returns-in-Ok-CutShort-clause-of_check c =
+    doubt_of_check c.args.profile.now (items_of c.args.entries.now) c.in-Ok-Unexplained.entry _
+    (subst (λ (v : Verdict). IsFirst c.args.profile.now (items_of c.args.entries.now) v) c.in-Ok-Unexplained.field-0-is
+    c.in-Ok-Unexplained.ensures.first)

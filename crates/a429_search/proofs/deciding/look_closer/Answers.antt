@@ -18,5 +18,6 @@ returns-in-Some-2 c =
     let first = subst (λ (o : Option Contradiction). IfSome o (IsFirstContradiction p items)) c.in-Some.is found in
     let inside = subst (λ o. IfSome o (λ k. k < length (take n es))) c.in-Some-2.is c.in_ok-entry.ensures.inside in
     let no_run = subst (λ o. IfSome o (HasNoRun p (items_of (take n es)))) c.in-Some-2.is c.in_ok-entry.ensures.no_run in
-    no_run_before p items n e (omega (arith, first.inside)) first.before (omega (arith, inside, ap length (take-map seen_of n es), same_length (take n es)))
+    no_run_before p items n e (omega (arith, first.inside)) first.before
+    (omega (arith, inside, ap length (take-map seen_of n es), same_length (take n es)))
     (subst (λ (xs : List Seen). HasNoRun p xs e) (sym (take-map seen_of n es)) no_run)

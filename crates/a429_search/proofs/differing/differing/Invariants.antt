@@ -5,7 +5,8 @@ use Rattle.a429_search.proofs.differing.differing.Given as goal
 
 abbrev pub invariant-loop-list : goal.invariant-loop-list
 invariant-loop-list l = record {
-  all : (zs : List ℕ) → HasEach zs (lists_of l.kept.items) → (k : ℕ) → k < l.list-index → IsSubsequenceOf (words_at (lists_of l.lists) k) zs;
+  all : (zs : List ℕ)
+      → HasEach zs (lists_of l.kept.items) → (k : ℕ) → k < l.list-index → IsSubsequenceOf (words_at (lists_of l.lists) k) zs;
   only : (zs : List ℕ) → HasEach zs (lists_of l.lists) → HasEach zs (lists_of l.kept.items);
   few : length l.kept.items ≤ 16;
   cut : l.budget.is_cut ≡ l.fn.budget.is_cut;

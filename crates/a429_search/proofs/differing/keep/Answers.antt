@@ -14,7 +14,9 @@ returns-in-Some-clause-all c zs each =
     let at = c.in-Some.at in
     let found = c.in-Some.ensures.some in
     let inside = inside_lists kept at (omega (arith, found.0, ap length c.deref.ensures.value)) in
-    each_replaced (lists_of kept) at list.items zs inside (subst (λ xs. IsSubsequenceOf (words_at (lists_of kept) at) xs) c.deref-2.ensures.value (subst (λ vs. IsSubsequenceOf (words_at (lists_of vs) at) c.deref-2.result.now) c.deref.ensures.value found.1))
+    each_replaced (lists_of kept) at list.items zs inside
+    (subst (λ xs. IsSubsequenceOf (words_at (lists_of kept) at) xs) c.deref-2.ensures.value
+    (subst (λ vs. IsSubsequenceOf (words_at (lists_of vs) at) c.deref-2.result.now) c.deref.ensures.value found.1))
     (subst (HasEach zs) (map-set (λ (v : Vec ℕ Global). v.items) kept at list) each)
 
 pub returns-in-Some-clause-only : goal.returns-in-Some-clause-only
@@ -22,16 +24,19 @@ returns-in-Some-clause-only c zs each has =
     let kept = c.args.kept.now.items in
     let list = c.args.list in
     let at = c.in-Some.at in
-    subst (HasEach zs) (sym (map-set (λ (v : Vec ℕ Global). v.items) kept at list)) (All-set (λ xs. IsSubsequenceOf xs zs) (lists_of kept) at list.items has each)
+    subst (HasEach zs) (sym (map-set (λ (v : Vec ℕ Global). v.items) kept at list))
+    (All-set (λ xs. IsSubsequenceOf xs zs) (lists_of kept) at list.items has each)
 
 pub returns-clause-all : goal.returns-clause-all
 returns-clause-all c zs each =
     let kept = c.args.kept.now.items in
     let list = c.args.list in
-    each_pushed (lists_of kept) list.items zs (subst (HasEach zs) (ap lists_of c.in_ok-push.ensures.items ∙ map_push (λ (v : Vec ℕ Global). v.items) kept list) each)
+    each_pushed (lists_of kept) list.items zs
+    (subst (HasEach zs) (ap lists_of c.in_ok-push.ensures.items ∙ map_push (λ (v : Vec ℕ Global). v.items) kept list) each)
 
 pub returns-clause-only : goal.returns-clause-only
 returns-clause-only c zs each has =
     let kept = c.args.kept.now.items in
     let list = c.args.list in
-    subst (HasEach zs) (sym (ap lists_of c.in_ok-push.ensures.items ∙ map_push (λ (v : Vec ℕ Global). v.items) kept list)) (All-push (λ xs. IsSubsequenceOf xs zs) (lists_of kept) list.items each has)
+    subst (HasEach zs) (sym (ap lists_of c.in_ok-push.ensures.items ∙ map_push (λ (v : Vec ℕ Global). v.items) kept list))
+    (All-push (λ xs. IsSubsequenceOf xs zs) (lists_of kept) list.items each has)

@@ -13,8 +13,10 @@ returns-in-Some-wanted c =
     let words = c.args.words.now in
     let bytes = c.in-Some.bytes.items in
     let k = c.in-Some-wanted.check in
-    let carried : bytes_carried p.codes words ≡ Some bytes = sym c.in_ok-bytes.ensures.computed ∙ ap (option_map (λ (v : Vec ℕ Global). v.items)) c.in-Some.is in
-    let made : c.check_word_by.result ≡ check_of p.check bytes = c.check_word_by.ensures ∙ ap (λ (r : Check). check_of r c.deref.result.now) c.check_tables.ensures ∙ ap (check_of p.check) c.deref.ensures.value in
+    let carried : bytes_carried p.codes words ≡ Some bytes =
+    sym c.in_ok-bytes.ensures.computed ∙ ap (option_map (λ (v : Vec ℕ Global). v.items)) c.in-Some.is in
+    let made : c.check_word_by.result ≡ check_of p.check bytes = c.check_word_by.ensures
+    ∙ ap (λ (r : Check). check_of r c.deref.result.now) c.check_tables.ensures ∙ ap (check_of p.check) c.deref.ensures.value in
     let both = fits_checked p words bytes k carried in (
       (λ h. subst (λ (o : Option ℕ). Fits p o words) (sym c.in-Some-wanted.is) (both.0 (eqb-true k c.check_word_by.result h ∙ made))),
       (λ f. eq-eqb k c.check_word_by.result (both.1 (subst (λ (o : Option ℕ). Fits p o words) c.in-Some-wanted.is f) ∙ sym made)),

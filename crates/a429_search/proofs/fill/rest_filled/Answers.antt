@@ -10,5 +10,6 @@ loop-filler-preserved c =
     let pushed = c.in_ok-push.ensures.items ∙ ap (λ w. rest ++ w ∷ []) c.filler-filler.ensures in
     record {
       some = omega (arith, ap length pushed, length-append rest (f ∷ []), c.loop-filler-test.true, c.len.ensures);
-      rest = filler_more (c.args.count - 1) f rest c.push.new.self.items (omega (arith, c.loop-filler-test.true, c.len.ensures)) pushed ∙ c.loop-filler.invariant.rest;
+      rest = filler_more (c.args.count - 1) f rest c.push.new.self.items (omega (arith, c.loop-filler-test.true, c.len.ensures)) pushed
+          ∙ c.loop-filler.invariant.rest;
     }

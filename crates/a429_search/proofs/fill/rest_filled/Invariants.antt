@@ -5,7 +5,8 @@ use Rattle.a429_search.proofs.fill.rest_filled.Given as goal
 abbrev pub invariant-loop-filler : goal.invariant-loop-filler
 invariant-loop-filler l = record {
   some : length l.rest.items ≤ l.fn.count - 1;
-  rest : l.rest.items ++ replicate (l.fn.count - 1 - length l.rest.items) (filler l.profile.codes) ≡ rest_filled l.profile.codes l.fn.count l.recorded;
+  rest : l.rest.items ++ replicate (l.fn.count - 1 - length l.rest.items) (filler l.profile.codes)
+      ≡ rest_filled l.profile.codes l.fn.count l.recorded;
 }
 
 abbrev pub decreases-loop-filler : goal.decreases-loop-filler

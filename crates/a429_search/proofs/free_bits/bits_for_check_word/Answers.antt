@@ -16,7 +16,8 @@ loop-k-preserved c =
     let g = word_with check bytes in
     let k = c.loop-k.k in
     let bit : 1 * 2 ^ k % 2 ^ 32 ≡ 2 ^ k = one_shl k 32 (omega arith) in
-    let word : c.check_word_by.result ≡ g (2 ^ k) = c.check_word_by.ensures ∙ ap (check_of check) (c.deref.ensures.value ∙ c.in_ok-changed.ensures ∙ ap (λ (m : ℕ). with_bits m bytes) bit) in
+    let word : c.check_word_by.result ≡ g (2 ^ k) = c.check_word_by.ensures
+    ∙ ap (check_of check) (c.deref.ensures.value ∙ c.in_ok-changed.ensures ∙ ap (λ (m : ℕ). with_bits m bytes) bit) in
     let start : c.check_word_by-start.result ≡ g 0 = c.check_word_by-start.ensures ∙ start_is check bytes in
     let place : 0 + k ≡ k = omega arith in
     c.in_ok-push.ensures.items
@@ -38,7 +39,8 @@ columns c =
 
 within : (c : After-choose_columns) → IfOk c.choose_columns.result (λ bits. IfSome bits (λ m. m < 2 ^ c.args.count))
 within c =
-    let many : length c.deref-2.result.now ≡ c.args.count = ap length (columns c) ∙ length-changes (word_with c.args.rule.now c.args.bytes.now) 0 c.args.count in
+    let many : length c.deref-2.result.now ≡ c.args.count =
+    ap length (columns c) ∙ length-changes (word_with c.args.rule.now c.args.bytes.now) 0 c.args.count in
     subst (λ n. IfOk c.choose_columns.result (λ bits. IfSome bits (λ m. m < 2 ^ n))) many c.choose_columns.ensures.within
 
 pub returns-clause-within : goal.returns-clause-within
@@ -52,8 +54,10 @@ returns-clause-found c =
     let init = ap (λ (k : Check). k.init) c.rule-numbers.ensures in
     let bytes = c.args.bytes.now in
     let start = c.check_word_by-start.result in
-    some_both (λ m. m < 2 ^ c.args.count) (λ m. xor_of c.deref-2.result.now m ≡ bit_xor start c.args.wanted) (λ m. check_of check (with_bits m bytes) ≡ c.args.wanted) c.choose_columns.result
-    (λ m h e. gives check bytes (omega (arith, poly)) (omega (arith, init)) c.args.count start c.args.wanted c.check_word_by-start.ensures m h (subst (λ xs. xor_of xs m ≡ bit_xor start c.args.wanted) (columns a) e))
+    some_both (λ m. m < 2 ^ c.args.count) (λ m. xor_of c.deref-2.result.now m ≡ bit_xor start c.args.wanted)
+    (λ m. check_of check (with_bits m bytes) ≡ c.args.wanted) c.choose_columns.result
+    (λ m h e. gives check bytes (omega (arith, poly)) (omega (arith, init)) c.args.count start c.args.wanted c.check_word_by-start.ensures m
+    h (subst (λ xs. xor_of xs m ≡ bit_xor start c.args.wanted) (columns a) e))
     (within a) c.choose_columns.ensures.chosen
 
 pub returns-clause-none : goal.returns-clause-none
@@ -64,6 +68,8 @@ returns-clause-none c =
     let init = ap (λ (k : Check). k.init) c.rule-numbers.ensures in
     let bytes = c.args.bytes.now in
     let start = c.check_word_by-start.result in
-    none_from ((m : ℕ) → xor_of c.deref-2.result.now m ≢ bit_xor start c.args.wanted) ((m : ℕ) → m < 2 ^ c.args.count → check_of check (with_bits m bytes) ≢ c.args.wanted) c.choose_columns.result
-    (λ none m h e. none m (subst (λ xs. xor_of xs m ≡ bit_xor start c.args.wanted) (sym (columns a)) (gives_back check bytes (omega (arith, poly)) (omega (arith, init)) c.args.count start c.args.wanted c.check_word_by-start.ensures m h e)))
+    none_from ((m : ℕ) → xor_of c.deref-2.result.now m ≢ bit_xor start c.args.wanted) ((m : ℕ) → m < 2 ^ c.args.count
+    → check_of check (with_bits m bytes) ≢ c.args.wanted) c.choose_columns.result
+    (λ none m h e. none m (subst (λ xs. xor_of xs m ≡ bit_xor start c.args.wanted) (sym (columns a)) (gives_back check bytes
+    (omega (arith, poly)) (omega (arith, init)) c.args.count start c.args.wanted c.check_word_by-start.ensures m h e)))
     c.choose_columns.ensures.none

@@ -9,6 +9,7 @@ loop-i-preserved c =
     let list = words_at L c.loop-i.i in
     record {
       none = below_more _ _ c.loop-i.invariant.none
-          (subst (λ o. IfNone o (HasEach list L → ¬ CanBeCompleted c.args.profile.now c.args.wanted.count c.args.wanted.check list)) c.in-None.is c.in_ok-words.ensures.none);
+          (subst (λ o. IfNone o (HasEach list L → ¬ CanBeCompleted c.args.profile.now c.args.wanted.count c.args.wanted.check list))
+          c.in-None.is c.in_ok-words.ensures.none);
       cut = c.in_ok-words.ensures.cut ∙ c.loop-i.invariant.cut;
     }

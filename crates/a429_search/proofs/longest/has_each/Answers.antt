@@ -8,5 +8,8 @@ use Rattle.a429_search.proofs.longest.has_each.Goals as goal
 pub returns-clause-is : goal.returns-clause-is
 returns-clause-is c =
     let lists = c.args.lists.now in
-    let words = c.args.words.now in
-    ((λ h k d l. subst (λ xs. IsSubsequenceOf xs words) (get_or_default (lists_of lists) k [] d l) (c.loop-i.invariant.each k (let inside : k < length lists = inside_given lists k l in omega arith))), (λ h. refl))
+    let words = c.args.words.now in (
+      (λ h k d l. subst (λ xs. IsSubsequenceOf xs words) (get_or_default (lists_of lists) k [] d l)
+          (c.loop-i.invariant.each k (let inside : k < length lists = inside_given lists k l in omega arith))),
+      (λ h. refl),
+    )

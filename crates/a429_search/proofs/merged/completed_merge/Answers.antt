@@ -12,7 +12,8 @@ returns-clause-some c =
     let wanted = c.args.wanted.check in
     let L = lists_of c.args.lists.now in
     let merged = c.args.merged.now in
-    some_from (λ (v : Vec ℕ Global). IsFilled p count wanted merged v.items) (λ (v : Vec ℕ Global). AreDataOf p count wanted L v.items) c.completed.result
+    some_from (λ (v : Vec ℕ Global). IsFilled p count wanted merged v.items)
+    (λ (v : Vec ℕ Global). AreDataOf p count wanted L v.items) c.completed.result
     (λ v f. merge_filled p count wanted L merged v.items c.requires f) c.completed.ensures.some
 
 pub returns-clause-none : goal.returns-clause-none
@@ -21,8 +22,10 @@ returns-clause-none c =
     let count = c.args.wanted.count in
     let wanted = c.args.wanted.check in
     let merged = c.args.merged.now in
-    none_from (¬ CanBeFilled p count wanted merged) (count ≡ 2 → length merged < 2 → ¬ HasOneByte p wanted merged) (¬ CanBeCompleted p count wanted merged) c.completed.result
+    none_from (¬ CanBeFilled p count wanted merged) (count ≡ 2 → length merged < 2 → ¬ HasOneByte p wanted merged)
+    (¬ CanBeCompleted p count wanted merged) c.completed.result
     (not_completed p count wanted merged)
-    (none_from (length merged ≡ count → ¬ Fits p wanted merged) (length merged < count → HasNoFreeWord p wanted (rest_filled p.codes count merged)) (¬ CanBeFilled p count wanted merged) c.completed.result
+    (none_from (length merged ≡ count → ¬ Fits p wanted merged) (length merged < count
+    → HasNoFreeWord p wanted (rest_filled p.codes count merged)) (¬ CanBeFilled p count wanted merged) c.completed.result
     (not_filled p count wanted merged) c.completed.ensures.whole c.completed.ensures.filled)
     c.completed.ensures.one_byte

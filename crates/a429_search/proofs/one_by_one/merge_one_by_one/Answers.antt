@@ -16,18 +16,27 @@ loop-list-preserved c =
     let old = c.loop-list.merged.items in
     let new = c.in_ok-merged.merged.items in
     let kept : IsSubsequenceOf old new = subst (λ xs. IsSubsequenceOf xs new) c.deref.ensures.value c.in_ok-merged.ensures.left in
-    let read : words_at (lists_of lists) i ≡ c.list-item.result.items = row_read lists i c.list-item.result c.loop-list-test.true c.list-item.is in
-    let here : IsSubsequenceOf (words_at (lists_of lists) i) new = subst (λ xs. IsSubsequenceOf xs new) (c.deref-in-loop-list.ensures.value ∙ sym read) c.in_ok-merged.ensures.right in
+    let read : words_at (lists_of lists) i ≡ c.list-item.result.items =
+    row_read lists i c.list-item.result c.loop-list-test.true c.list-item.is in
+    let here : IsSubsequenceOf (words_at (lists_of lists) i) new =
+    subst (λ xs. IsSubsequenceOf xs new) (c.deref-in-loop-list.ensures.value ∙ sym read) c.in_ok-merged.ensures.right in
     let long : Vec ℕ Global → ℕ = λ list. length list.items in
     let item = c.list-item.result.items in
     let both = old ++ item in
-    let has_old : IsSubsequenceOf c.deref.result.now both = subst (λ xs. IsSubsequenceOf xs both) (sym c.deref.ensures.value) (sub_before old old item (sub_all old)) in
-    let has_item : IsSubsequenceOf c.deref-in-loop-list.result.now both = subst (λ xs. IsSubsequenceOf xs both) (sym c.deref-in-loop-list.ensures.value) (sub_append [] old item item (sub_none old) (sub_all item)) in
+    let has_old : IsSubsequenceOf c.deref.result.now both =
+    subst (λ xs. IsSubsequenceOf xs both) (sym c.deref.ensures.value) (sub_before old old item (sub_all old)) in
+    let has_item : IsSubsequenceOf c.deref-in-loop-list.result.now both =
+    subst (λ xs. IsSubsequenceOf xs both) (sym c.deref-in-loop-list.ensures.value)
+    (sub_append [] old item item (sub_none old) (sub_all item)) in
     let short : length new ≤ length both = c.in_ok-merged.ensures.shortest both has_old has_item in
-    let more : sum_by long (take (i + 1) lists) ≡ sum_by long (take i lists) + long c.list-item.result = sum_by_more long lists i c.list-item.result c.loop-list-test.true ∙ ap (λ (n : ℕ). sum_by long (take i lists) + n) (ap long (sym c.list-item.is)) in
+    let more : sum_by long (take (i + 1) lists) ≡ sum_by long (take i lists) + long c.list-item.result =
+    sum_by_more long lists i c.list-item.result c.loop-list-test.true
+    ∙ ap (λ (n : ℕ). sum_by long (take i lists) + n) (ap long (sym c.list-item.is)) in
     let before = c.loop-list.invariant.few in
     record {
-      each = below_more (λ k. IsSubsequenceOf (words_at (lists_of lists) k) new) i (λ k l. sub_trans (words_at (lists_of lists) k) old new (c.loop-list.invariant.each k l) kept) here;
+      each =
+          below_more (λ k. IsSubsequenceOf (words_at (lists_of lists) k) new) i
+          (λ k l. sub_trans (words_at (lists_of lists) k) old new (c.loop-list.invariant.each k l) kept) here;
       few = omega (arith, short, more, length-append old item);
       cut = c.spend.ensures ∙ c.loop-list.invariant.cut;
     }
@@ -36,4 +45,5 @@ pub returns-clause-kept : goal.returns-clause-kept
 returns-clause-kept c k d l =
     let lists = c.args.lists.now in
     let inside : k < length lists = inside_given lists k l in
-    subst (λ xs. IsSubsequenceOf xs c.loop-list.merged.items) (get_or_default (lists_of lists) k [] d l) (c.loop-list.invariant.each k (omega arith))
+    subst (λ xs. IsSubsequenceOf xs c.loop-list.merged.items) (get_or_default (lists_of lists) k [] d l)
+    (c.loop-list.invariant.each k (omega arith))

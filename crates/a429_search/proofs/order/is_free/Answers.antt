@@ -14,10 +14,13 @@ loop-i-preserved c =
     let k = slice_index c.args.passed.now c.loop-i.i in
     record {
       none = below_more _ _ c.loop-i.invariant.none
-          (λ later. let found = c.comes_later.ensures.is.1 (subst (λ xs. IsLater xs k c.args.word) (sym c.words_at.ensures) later) in absurd (cc (found, c.if-comes_later.false)));
+          (λ later. let found = c.comes_later.ensures.is.1 (subst (λ xs. IsLater xs k c.args.word) (sym c.words_at.ensures) later) in
+          absurd (cc (found, c.if-comes_later.false)));
       cut = c.comes_later.ensures.cut ∙ c.loop-i.invariant.cut;
     }
 
 pub returns-clause-is : goal.returns-clause-is
-returns-clause-is c =
-    ((λ h i l. c.loop-i.invariant.none i (let m : i < length c.args.lists.now = inside_given c.args.lists.now i l in omega arith)), (λ h. refl))
+returns-clause-is c = (
+  (λ h i l. c.loop-i.invariant.none i (let m : i < length c.args.lists.now = inside_given c.args.lists.now i l in omega arith)),
+  (λ h. refl),
+)

@@ -6,13 +6,17 @@ use Rattle.a429_search.proofs.PairFacts.{row_read, last_from}
 use Rattle.a429_search.proofs.pair.length_from.Goals as goal
 use Rattle.a429_search.proofs.pair.length_from.Goals.{After-index-rows-left}
 
-read : (c : After-index-rows-left) → slice_index_or (lists_of c.args.rows.now) (length c.args.left.now - c.args.i) [] ≡ c.index-rows-left.result.items
+read : (c : After-index-rows-left)
+    → slice_index_or (lists_of c.args.rows.now) (length c.args.left.now - c.args.i) [] ≡ c.index-rows-left.result.items
 read c =
     let rows = c.args.rows.now in
     let many : length (lists_of rows) ≡ length rows = length-map rows (λ v. v.items) in
-    row_read rows (length c.args.left.now - c.args.i) c.index-rows-left.result (omega (arith, many, c.requires.table.long)) c.index-rows-left.is
+    row_read rows (length c.args.left.now - c.args.i) c.index-rows-left.result
+    (omega (arith, many, c.requires.table.long)) c.index-rows-left.is
 
-row : (c : After-index-rows-left) → IsRow (last (length c.args.left.now - c.args.i) c.args.left.now) c.args.right.now (slice_index_or (lists_of c.args.rows.now) (length c.args.left.now - c.args.i) [])
+row : (c : After-index-rows-left)
+    → IsRow (last (length c.args.left.now - c.args.i) c.args.left.now) c.args.right.now
+    (slice_index_or (lists_of c.args.rows.now) (length c.args.left.now - c.args.i) [])
 row c = c.requires.table.at (length c.args.left.now - c.args.i) (omega arith)
 
 pub index-requires : goal.index-requires

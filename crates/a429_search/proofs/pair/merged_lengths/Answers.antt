@@ -10,7 +10,8 @@ next_row-requires-clause-row c =
     let rows = c.loop-m.rows.items in
     let m = c.loop-m.m in
     let read = row_read rows m c.index.result.now (omega arith) c.index.ensures in
-    subst (λ row. IsRow (last m c.args.left.now) c.args.right.now row) (read ∙ sym c.deref.ensures.value) (c.loop-m.invariant.each m (omega arith))
+    subst (λ row. IsRow (last m c.args.left.now) c.args.right.now row) (read ∙ sym c.deref.ensures.value)
+    (c.loop-m.invariant.each m (omega arith))
 
 pub loop-m-preserved : goal.loop-m-preserved
 loop-m-preserved c =
@@ -19,5 +20,6 @@ loop-m-preserved c =
     record {
       long = ap length items ∙ length_push rows c.in_ok-row.row ∙ ap (λ (k : ℕ). k + 1) c.loop-m.invariant.long;
       each = λ k l. subst (λ rows. IsRow (last k c.args.left.now) c.args.right.now (slice_index_or (lists_of rows) k [])) (sym items)
-          (rows_more c.args.left.now c.args.right.now rows c.in_ok-row.row c.loop-m.m c.loop-m.invariant.long c.loop-m.invariant.each c.in_ok-row.ensures k l);
+          (rows_more c.args.left.now c.args.right.now rows c.in_ok-row.row c.loop-m.m c.loop-m.invariant.long c.loop-m.invariant.each
+          c.in_ok-row.ensures k l);
     }

@@ -16,13 +16,19 @@ loop-word-preserved c =
       | then-matched-words+then-eq w ↦
           rw w.matched-is (record {
             inside = omega arith;
-            same = both _ _ _ before (rest_same xs ys m n (omega arith) on (same_read xs ys m n w.index-words-matched.result c.word-item.result w.eq.result (omega arith) on w.index-words-matched.is c.word-item.is w.eq.ensures w.if-eq.true));
+            same =
+                both _ _ _ before
+                (rest_same xs ys m n (omega arith) on (same_read xs ys m n w.index-words-matched.result c.word-item.result w.eq.result
+                (omega arith) on w.index-words-matched.is c.word-item.is w.eq.ensures w.if-eq.true));
           })
       | else-matched-words w ↦
           rw w.matched-is (record {
             inside = omega arith;
             same = both _ _ _ before (elim w.else-matched-words.branch [
-              | else-matched-words-via-then-matched-words+else-eq v ↦ rest_other xs ys m n (omega arith) on (other_read xs ys m n v.index-words-matched.result c.word-item.result v.eq.result (omega arith) on v.index-words-matched.is c.word-item.is v.eq.ensures v.if-eq.false)
+              | else-matched-words-via-then-matched-words+else-eq v ↦
+                  rest_other xs ys m n (omega arith) on
+                  (other_read xs ys m n v.index-words-matched.result c.word-item.result v.eq.result
+                  (omega arith) on v.index-words-matched.is c.word-item.is v.eq.ensures v.if-eq.false)
               | else-matched-words-via-else-matched-words v ↦ rest_none xs ys m n (n + 1) (omega arith)
             ]);
           })

@@ -14,4 +14,5 @@ loop-code-preserved g c = rw (lines_more c.loop-code.code c.args.counts.now) (c.
 pub returns : goal.returns
 returns g c =
     let all : c.loop-code.code ≡ 256 = omega (arith, c.loop-code-test.false, c.loop-code.auto.code-end) in
-    subst (λ n. Says g.W.Write.contents c.args.sheet.now c.loop-code.sheet (destination_lines n c.args.counts.now)) all c.loop-code.invariant
+    subst (λ n. Says g.W.Write.contents c.args.sheet.now c.loop-code.sheet (destination_lines n c.args.counts.now)) all
+    c.loop-code.invariant

@@ -13,4 +13,6 @@ pub returns-in-Free : goal.returns-in-Free
 returns-in-Free c = sym (sees_free c.args.profile.now.codes c.args.seen (sym c.form.ensures.computed ∙ c.in-Free.is))
 
 pub returns-in-Form : goal.returns-in-Form
-returns-in-Form c = sym (sees_form c.args.profile.now c.codes-codes.ensures.sound c.args.seen c.in-Form.field-0 (sym c.form.ensures.computed ∙ c.in-Form.is))
+returns-in-Form c =
+    sym (sees_form c.args.profile.now c.codes-codes.ensures.sound c.args.seen c.in-Form.field-0
+    (sym c.form.ensures.computed ∙ c.in-Form.is))

@@ -16,7 +16,9 @@ returns-in_err-next-clause-until g c =
       entries = [];
       came = omega (arith, none);
       says = says_nothing _ c.args.sheet.now;
-      stops = gave_until c.args.rec.now.to_come c.next_of.new.rec.to_come [] _ (gave_first c.args.rec.now.to_come c.next_of.new.rec.to_come _ c.in_err-next.ensures.gives);
+      stops =
+          gave_until c.args.rec.now.to_come c.next_of.new.rec.to_come [] _
+          (gave_first c.args.rec.now.to_come c.next_of.new.rec.to_come _ c.in_err-next.ensures.gives);
     })
 
 pub entries-init : goal.entries-init
@@ -68,12 +70,17 @@ returns-in_err-next-2-clause-until g c =
     let p = err_from_is_err_and c.from_residual-in_err-next-2.result c.from_residual-in_err-next-2.ensures.1 in
     let before : c.entries.rec.count ≡ c.args.rec.now.count + length es + 1 = rw c.in-Some.is at i.count in
     let none : c.next_of-in-entries.new.rec.count ≡ c.entries.rec.count + 0 = c.in_err-next-2.ensures.counts in
-    let written = written_is codes c.codes-codes.result.now side es e c.directed-entry.result c.next_lot-lot.result c.entries.last c.entry_of-written.result c.entry_of-written.ensures c.codes-codes.ensures.codes c.next_lot-lot.ensures.lot i.last c.directed-entry.ensures in
+    let written =
+    written_is codes c.codes-codes.result.now side es e c.directed-entry.result c.next_lot-lot.result c.entries.last
+    c.entry_of-written.result c.entry_of-written.ensures c.codes-codes.ensures.codes c.next_lot-lot.ensures.lot i.last
+    c.directed-entry.ensures in
     rw (p.1, p.2) (record {
       entries = es ++ e ∷ [];
       came = omega (arith, before, none, length-append es (e ∷ []));
       says = rw (before_is codes side es e ∙ side_text-more codes side es e) (i.says ▹ (rw written at c.put_written.ensures));
-      stops = gave_until c.args.rec.now.to_come c.next_of-in-entries.new.rec.to_come (es ++ e ∷ []) _ (gave_more _ _ _ es e _ (rw c.in-Some.is at i.gave) c.in_err-next-2.ensures.gives);
+      stops =
+          gave_until c.args.rec.now.to_come c.next_of-in-entries.new.rec.to_come (es ++ e ∷ []) _
+          (gave_more _ _ _ es e _ (rw c.in-Some.is at i.gave) c.in_err-next-2.ensures.gives);
     })
 
 pub entries-preserved : goal.entries-preserved
@@ -86,13 +93,20 @@ entries-preserved g c =
     let before : c.entries.rec.count ≡ c.args.rec.now.count + length es + 1 = rw c.in-Some.is at i.count in
     let below : c.entries.rec.count < 2 ^ 64 = rw c.in-Some.is at i.few in
     let few : length (lots_of codes side es) + 1 < 2 ^ 64 = omega (arith, lots_of-long codes side es, before, below) in
-    let lot = lot_is codes side es e c.directed-entry.result c.next_lot-lot.result c.entries.last c.next_lot-lot.ensures.lot i.last c.directed-entry.ensures in
-    let written = written_is codes c.codes-codes.result.now side es e c.directed-entry.result c.next_lot-lot.result c.entries.last c.entry_of-written.result c.entry_of-written.ensures c.codes-codes.ensures.codes c.next_lot-lot.ensures.lot i.last c.directed-entry.ensures in
+    let lot =
+    lot_is codes side es e c.directed-entry.result c.next_lot-lot.result c.entries.last c.next_lot-lot.ensures.lot i.last
+    c.directed-entry.ensures in
+    let written =
+    written_is codes c.codes-codes.result.now side es e c.directed-entry.result c.next_lot-lot.result c.entries.last
+    c.entry_of-written.result c.entry_of-written.ensures c.codes-codes.ensures.codes c.next_lot-lot.ensures.lot i.last
+    c.directed-entry.ensures in
     record {
       entries = es ++ e ∷ [];
       says = rw (side_text-more codes side es e) (i.says ▹ (rw written at c.put_written.ensures));
       counted = subst (AreCounts c.add.new.self) lot (c.add.ensures (lots_of codes side es) few i.counted);
-      last = turn_is codes side es e c.directed-entry.result c.next_lot-lot.new.last c.entries.last c.next_lot-lot.ensures.last i.last c.directed-entry.ensures;
+      last =
+          turn_is codes side es e c.directed-entry.result c.next_lot-lot.new.last c.entries.last c.next_lot-lot.ensures.last i.last
+          c.directed-entry.ensures;
       gave = gave_more c.args.rec.now.to_come _ _ es e _ (rw c.in-Some.is at i.gave) c.in_ok-next-2.ensures.gives;
       count = omega (arith, before, c.in_ok-next-2.ensures.counts, length-append es (e ∷ []));
       few = c.in_ok-next-2.ensures.few;

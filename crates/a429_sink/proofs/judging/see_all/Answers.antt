@@ -20,7 +20,9 @@ entries-preserved g c =
     let counts = rw c.in-Ok-Some.field-0-is at c.in-Ok-Some.ensures.counts in
     let gives = rw c.in-Ok-Some.field-0-is at c.in-Ok-Some.ensures.gives in (
       es ++ e ∷ [],
-      traced_more p es e c.see.new.self (subst (λ (i : Seen). IsLoneTrace p (items_of es ++ i ∷ []) c.see.new.self) c.seen.ensures (c.in-Ok.ensures.goes_on (items_of es) so_far.1)),
+      traced_more p es e c.see.new.self
+          (subst (λ (i : Seen). IsLoneTrace p (items_of es ++ i ∷ []) c.see.new.self) c.seen.ensures
+          (c.in-Ok.ensures.goes_on (items_of es) so_far.1)),
       came_more _ _ _ es e gives so_far.2,
       omega (arith, sum, so_far.3, counts),
     )
@@ -34,7 +36,8 @@ returns-in-Err-Refused-clause-sees g c =
     let counts = rw c.in-Ok-Some.field-0-is at c.in-Ok-Some.ensures.counts in
     let gives = rw c.in-Ok-Some.field-0-is at c.in-Ok-Some.ensures.gives in
     let stop = rw c.in-Err-Refused.field-0-is at c.in-Err-Refused.ensures.stop in
-    rw c.in-Err-Refused.refusal-is (says_no p c.codes-codes.ensures.sound (taken c.args.rec.now c.next_of.new.rec) es e c.in-Err-Refused.refusal
+    rw c.in-Err-Refused.refusal-is
+    (says_no p c.codes-codes.ensures.sound (taken c.args.rec.now c.next_of.new.rec) es e c.in-Err-Refused.refusal
     (began _ _ (es ++ e ∷ []) (came_more _ _ _ es e gives so_far.2))
     (omega (arith, so_far.3, counts))
     (rw c.seen.ensures at (stop (items_of es) so_far.1)))

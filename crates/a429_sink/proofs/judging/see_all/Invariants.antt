@@ -6,7 +6,8 @@ use Rattle.a429_sink.specs.LoneTrace.{IsLoneTrace}
 use Rattle.a429_sink.proofs.judging.see_all.Given as goal
 
 abbrev pub invariant-entries : goal.invariant-entries
-invariant-entries g l = (es : List Entry) × IsLoneTrace l.profile (items_of es) l.trace × Came l.fn.rec.to_come es l.rec.to_come × (l.rec.count ≡ l.fn.rec.count + length es)
+invariant-entries g l = (es : List Entry) × IsLoneTrace l.profile (items_of es) l.trace × Came l.fn.rec.to_come es l.rec.to_come
+    × (l.rec.count ≡ l.fn.rec.count + length es)
 
 abbrev pub decreases-entries : goal.decreases-entries
 decreases-entries g l = l.rec.room

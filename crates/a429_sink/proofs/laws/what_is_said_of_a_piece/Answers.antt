@@ -13,7 +13,8 @@ pub returns-clause-sound : goal.returns-clause-sound
 returns-clause-sound c = λ p piece t told. sound_stops_nowhere p piece t.stop told.stops
 
 pub returns-clause-stop : goal.returns-clause-stop
-returns-clause-stop c = λ p piece t k is told at. let stops : IsStop p piece (Some k) = subst (IsStop p piece) at told.stops in refused_anywhere p (is_read p is) piece k stops.0
+returns-clause-stop c = λ p piece t k is told at. let stops : IsStop p piece (Some k) = subst (IsStop p piece) at told.stops in
+    refused_anywhere p (is_read p is) piece k stops.0
 
 pub returns-clause-files : goal.returns-clause-files
 returns-clause-files c = λ p piece t r told e.

@@ -30,5 +30,6 @@ returns-in-Err-take-clause-until g c =
     let e = c.in-Ok-Some.entry in
     let counts = rw c.in-Ok-Some.field-0-is at c.in-Ok-Some.ensures.counts in
     let gives = rw c.in-Ok-Some.field-0-is at c.in-Ok-Some.ensures.gives in
-    splits_until c.args.profile.now (taken c.args.rec.now c.next_of.new.rec) (g.P.Pieces.known c.args.pieces.now) (g.P.Pieces.known c.take.new.pieces) c.next_of.new.rec.to_come c.fault_by.result (i.entries ++ e ∷ [])
+    splits_until c.args.profile.now (taken c.args.rec.now c.next_of.new.rec) (g.P.Pieces.known c.args.pieces.now)
+    (g.P.Pieces.known c.take.new.pieces) c.next_of.new.rec.to_come c.fault_by.result (i.entries ++ e ∷ [])
     (came_more _ _ _ i.entries e gives i.came) (omega (arith, i.count, counts, length-append i.entries (e ∷ []))) c.fault_by.ensures.either

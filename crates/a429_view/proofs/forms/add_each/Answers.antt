@@ -15,8 +15,12 @@ loop-i-preserved c =
     let text = digit_glyph true in
     let more = map_more text semis i 0 c.loop-i-test.true in
     let digit = rw c.hex_digit.ensures at c.put-in-loop-i.ensures in
-    subst (Adds c.args.line.now c.put-in-loop-i.new.self (5 + (i + 1))) (append_assoc (codes "data ") (map text (take i semis)) (text (get_or semis i 0) ∷ []) ∙ ap (λ t. codes "data " ++ t) (sym more))
+    subst (Adds c.args.line.now c.put-in-loop-i.new.self (5 + (i + 1)))
+    (append_assoc (codes "data ") (map text (take i semis)) (text (get_or semis i 0) ∷ []) ∙ ap (λ t. codes "data " ++ t) (sym more))
     (within (5 + (i + 1)) (c.loop-i.invariant ▹ digit) (omega arith))
 
 pub returns : goal.returns
-returns c = within 10 (rw c.as_slice-semis.ensures.value at (rw (take_all c.loop-i.i c.as_slice-semis.result.now c.loop-i-test.false) at c.loop-i.invariant)) (omega (arith, c.as_slice-semis.ensures.sound.1, ap length c.as_slice-semis.ensures.value))
+returns c =
+    within 10
+    (rw c.as_slice-semis.ensures.value at (rw (take_all c.loop-i.i c.as_slice-semis.result.now c.loop-i-test.false) at c.loop-i.invariant))
+    (omega (arith, c.as_slice-semis.ensures.sound.1, ap length c.as_slice-semis.ensures.value))

@@ -10,5 +10,6 @@ pub loop-units-preserved : goal.loop-units-preserved
 loop-units-preserved g c =
     let none : FileUnits = record { file = 0; first = 0; last = 0; ended = false } in
     let here = get_or c.args.others.now c.loop-units.units-index none in
-    rw (flat_map-more open_line c.args.others.now c.loop-units.units-index here c.loop-units-test.true (get_or_default c.args.others.now c.loop-units.units-index none here c.loop-units-test.true))
+    rw (flat_map-more open_line c.args.others.now c.loop-units.units-index here c.loop-units-test.true
+    (get_or_default c.args.others.now c.loop-units.units-index none here c.loop-units-test.true))
     (c.loop-units.invariant ▹ c.put_open.ensures)

@@ -5,4 +5,5 @@ use Rattle.a429_view.specs.History.{reason_text}
 use Rattle.a429_view.proofs.history.put_stopped.Goals as goal
 
 pub returns : goal.returns
-returns g c = c.put.ensures ▹ c.put_number.ensures ▹ (rw (c.reason.ensures ∙ ap (λ s. reason_text (form_in s)) c.form.ensures.computed) at c.put-2.ensures)
+returns g c = c.put.ensures ▹ c.put_number.ensures
+    ▹ (rw (c.reason.ensures ∙ ap (λ s. reason_text (form_in s)) c.form.ensures.computed) at c.put-2.ensures)

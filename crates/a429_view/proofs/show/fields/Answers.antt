@@ -7,7 +7,8 @@ use Rattle.a429_view.proofs.OneDigit.{one_digit}
 use Rattle.a429_view.proofs.show.fields.Goals as goal
 
 -- byte by byte
-bytes-are : (w sdi ssm : ℕ) (label : List ℕ) → label ≡ octal_text (label_of w) → (48 + sdi) ∷ [] ≡ decimal (sdi_of w) → (48 + ssm) ∷ [] ≡ decimal (ssm_of w)
+bytes-are : (w sdi ssm : ℕ) (label : List ℕ)
+    → label ≡ octal_text (label_of w) → (48 + sdi) ∷ [] ≡ decimal (sdi_of w) → (48 + ssm) ∷ [] ≡ decimal (ssm_of w)
     → get_or label 0 0 ∷ get_or label 1 0 ∷ get_or label 2 0 ∷ 32 ∷ (48 + sdi) ∷ 32 ∷ (48 + ssm) ∷ 32 ∷ [] ≡ fields_text w
 unfolding numeral
 bytes-are w sdi ssm label e1 e2 e3 = rw (e1, ← e2, ← e3) refl

@@ -16,7 +16,8 @@ no_flags field (Bcd digits decimals) other = refl
 pub returns : goal.returns
 returns g c =
     let name = rw (c.as_bytes.ensures.value ∙ c.as_str.ensures) at c.put.ensures in
-    let flags : Says g.W.Write.contents c.put.new.self c.match-entry.sheet (flags_text c.args.field c.args.entry.now.kind) = elim c.match-entry.branch [
+    let flags : Says g.W.Write.contents c.put.new.self c.match-entry.sheet (flags_text c.args.field c.args.entry.now.kind) =
+    elim c.match-entry.branch [
       | in-Discrete w ↦ rw (w.sheet-is, w.in-Discrete.is) (rw w.as_slice.ensures at w.put_flags.ensures)
       | in_default w ↦ rw (w.sheet-is, no_flags c.args.field c.args.entry.now.kind w.in_default.not-Discrete) (says_nothing _ _)
     ] in

@@ -6,6 +6,12 @@ pub returns : goal.returns
 returns g c =
     let shown = c.put_shown.ensures in (
       _,
-      record { what = c.shown_by_parity.result; text = shown.0; is_shown = c.shown_by_parity.ensures.shown; is_text = shown.1; layout = refl },
+      record {
+        what = c.shown_by_parity.result;
+        text = shown.0;
+        is_shown = c.shown_by_parity.ensures.shown;
+        is_text = shown.1;
+        layout = refl;
+      },
       c.put_recorded.ensures ▹ shown.2 ▹ c.put.ensures,
     )

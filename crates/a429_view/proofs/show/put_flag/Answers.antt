@@ -22,8 +22,11 @@ returns-clause-says g c =
     let one = c.split_at-2.ensures.front ∙ ap (take len) c.split_at.ensures.back ∙ parts.1 in
     let zero = c.split_at.ensures.front ∙ parts.0 in
     let text : c.if-is_set.put.now ≡ flag_text c.args.field flag = elim c.if-is_set.branch [
-      | then-is_set w ↦ let is : 1 ≡ bit_at c.args.field place = omega (arith, bit, w.if-is_set.true) in rw w.put-is (one ∙ ap (λ b. text_with b flag) is)
-      | else-is_set w ↦ let is : 0 ≡ bit_at c.args.field place = omega (arith, bit, low, w.if-is_set.false) in rw w.put-is (zero ∙ ap (λ b. text_with b flag) is)
+      | then-is_set w ↦
+          let is : 1 ≡ bit_at c.args.field place = omega (arith, bit, w.if-is_set.true) in rw w.put-is (one ∙ ap (λ b. text_with b flag) is)
+      | else-is_set w ↦
+          let is : 0 ≡ bit_at c.args.field place = omega (arith, bit, low, w.if-is_set.false) in
+          rw w.put-is (zero ∙ ap (λ b. text_with b flag) is)
     ] in
     rw text at c.put.ensures
 

@@ -7,6 +7,7 @@ loop-i-preserved g c =
     let so_far = c.loop-i.invariant in
     let line = c.put_entry.ensures in (
       _,
-      AreShowLines-next c.args.profile.now c.args.piece.now c.loop-i.i c.index-piece-i.result so_far.0 line.0 c.loop-i-test.true c.index-piece-i.is so_far.1 line.1,
+      AreShowLines-next c.args.profile.now c.args.piece.now c.loop-i.i c.index-piece-i.result so_far.0 line.0 c.loop-i-test.true
+          c.index-piece-i.is so_far.1 line.1,
       so_far.2 ▹ line.2,
     )

@@ -18,7 +18,11 @@ loop-piece-preserved g c =
       steps.0 ∙ before.2,
       before.3 ++ piece,
       append_assoc before.3 piece (chunks_rest c.next.new.self) ∙ ap (λ l. before.3 ++ l) (sym steps.1.0) ∙ before.4,
-      (before.5.0 ++ lines.0, AreShowLines-join c.args.profile.now before.3 piece before.5.0 lines.0 before.5.1 lines.1, before.5.2 ▹ lines.2),
+      (
+        before.5.0 ++ lines.0,
+        AreShowLines-join c.args.profile.now before.3 piece before.5.0 lines.0 before.5.1 lines.1,
+        before.5.2 ▹ lines.2,
+      ),
     )
 
 -- the lines so far are those of the first entries

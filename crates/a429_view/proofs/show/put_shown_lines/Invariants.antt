@@ -10,4 +10,5 @@ invariant-loop-piece g l =
     (goal.iterator-loop-piece g).can_next l.piece-iterator
     × (goal.iterator-loop-piece g).is_finite l.piece-iterator
     × (chunks_size l.piece-iterator ≡ 256)
-    × (done : List Entry) × (done ++ chunks_rest l.piece-iterator ≡ l.entries) × SaysSome g.W.Write.contents l.initial.sheet l.sheet (AreShowLines l.profile done)
+    × (done : List Entry) × (done ++ chunks_rest l.piece-iterator ≡ l.entries)
+    × SaysSome g.W.Write.contents l.initial.sheet l.sheet (AreShowLines l.profile done)

@@ -7,4 +7,5 @@ pub returns : goal.returns
 returns c =
     let len = c.loop-i.invariant.len in
     same_number_lists _ _ (len ∙ sym (length-bits_text c.args.word 32))
-    (λ k inside. let below : k < 32 = omega arith in c.loop-i.invariant.digits k (omega arith) ∙ sym (get_or-bits_text c.args.word 32 k below))
+    (λ k inside. let below : k < 32 = omega arith in
+    c.loop-i.invariant.digits k (omega arith) ∙ sym (get_or-bits_text c.args.word 32 k below))

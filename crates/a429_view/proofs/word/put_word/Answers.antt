@@ -16,8 +16,12 @@ returns g c =
     let hex = rw c.hex.ensures at c.put_line.ensures in
     let bits = rw c.bits.ensures at c.put_line-2.ensures in
     let label = rw (c.octal.ensures ∙ ap octal_text c.label.ensures) at c.put_line-3.ensures in
-    let sdi = subst (λ value. Says g.W.Write.contents c.put_line-3.new.sheet c.put_line-4.new.sheet (line (codes "sdi") value)) (one_digit _ _ c.sdi.ensures.value c.sdi.ensures.range) c.put_line-4.ensures in
-    let ssm = subst (λ value. Says g.W.Write.contents c.put_line-4.new.sheet c.put_line-5.new.sheet (line (codes "ssm") value)) (one_digit _ _ c.ssm.ensures.value c.ssm.ensures.range) c.put_line-5.ensures in
+    let sdi =
+    subst (λ value. Says g.W.Write.contents c.put_line-3.new.sheet c.put_line-4.new.sheet (line (codes "sdi") value))
+    (one_digit _ _ c.sdi.ensures.value c.sdi.ensures.range) c.put_line-4.ensures in
+    let ssm =
+    subst (λ value. Says g.W.Write.contents c.put_line-4.new.sheet c.put_line-5.new.sheet (line (codes "ssm") value))
+    (one_digit _ _ c.ssm.ensures.value c.ssm.ensures.range) c.put_line-5.ensures in
     let parity = rw (c.as_bytes.ensures.value ∙ c.parity.ensures) at c.put_line-6.ensures in
     let bnr = rw (c.as_bytes-2.ensures.value ∙ text ∙ ap signed_decimal c.bnr_raw.ensures) at c.put_line-7.ensures in
     hex ▹ bits ▹ label ▹ sdi ▹ ssm ▹ parity ▹ bnr

@@ -12,7 +12,8 @@ pub returns-in-Either-clause-most : goal.returns-in-Either-clause-most
 returns-in-Either-clause-most c = (tabulated-is Either c.args.byte c.from.result c.ranges.byte.fits c.from.ensures).most
 
 pub returns-in-Upper-clause-digit : goal.returns-in-Upper-clause-digit
-returns-in-Upper-clause-digit c = rw c.in-Upper.is (tabulated-is Upper c.args.byte c.from-in-Upper.result c.ranges.byte.fits c.from-in-Upper.ensures).digit
+returns-in-Upper-clause-digit c =
+    rw c.in-Upper.is (tabulated-is Upper c.args.byte c.from-in-Upper.result c.ranges.byte.fits c.from-in-Upper.ensures).digit
 
 pub returns-in-Upper-clause-value : goal.returns-in-Upper-clause-value
 returns-in-Upper-clause-value c = (tabulated-is Upper c.args.byte c.from-in-Upper.result c.ranges.byte.fits c.from-in-Upper.ensures).value

@@ -4,7 +4,8 @@ use Rattle.a429_word.proofs.fixed.shortest.Goals as goal
 
 pub returns-in-Some-clause-value : goal.returns-in-Some-clause-value
 returns-in-Some-clause-value c =
-    tens_dropped c.args.number c.in-Some.rest c.twos_of-twos.result c.args.decimals c.twos_of-twos.ensures.within c.twos_of-twos.ensures.factors c.in-Some.ensures
+    tens_dropped c.args.number c.in-Some.rest c.twos_of-twos.result c.args.decimals c.twos_of-twos.ensures.within
+    c.twos_of-twos.ensures.factors c.in-Some.ensures
 
 pub returns-in-Some-clause-ends : goal.returns-in-Some-clause-ends
 returns-in-Some-clause-ends c =

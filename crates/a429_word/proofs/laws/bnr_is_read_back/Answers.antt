@@ -6,5 +6,7 @@ pub returns : goal.returns
 returns c = record {
   bits = raw_of-bits;
   within = raw_of-within;
-  one = λ v w s hv hw least most odd_v odd_w h. same_from_fields v w hv hw odd_v odd_w h.label h.sdi (field_from_raw v w s least most h.raw h.below) h.ssm;
+  one =
+      λ v w s hv hw least most odd_v odd_w h.
+      same_from_fields v w hv hw odd_v odd_w h.label h.sdi (field_from_raw v w s least most h.raw h.below) h.ssm;
 }

@@ -5,5 +5,6 @@ use Rattle.a429_cert.proofs.likely.WordLines.pair.Goals as goal
 
 pub returns : goal.returns
 returns c =
-    let text = c.as_slice.ensures ∙ (rw c.args.self.now.pairs_all at c.index.ensures) ∙ get-below pair_text 254 c.args.place c.index.result.now c.if-place-ge254.false in
+    let text = c.as_slice.ensures ∙ (rw c.args.self.now.pairs_all at c.index.ensures)
+    ∙ get-below pair_text 254 c.args.place c.index.result.now c.if-place-ge254.false in
     (text, c.if-place-ge254.false)

@@ -19,7 +19,8 @@ returns-in-Some-clause-yes c = λ _ more.
     let line = c.in-Some.likely in
     let likely : IsLikelyLine line = subst (λ (o : Option LikelyLine). IfSome o IsLikelyLine) c.in-Some.is c.requires in
     let new = bytes_ahead c.take_text.new.self in
-    rw (c.if-take_text.ensures.line refl, c.if-take_text.ensures.yes refl) (ap certificate_lines (append_assoc (text_in line) (10 ∷ new) more) ∙ likely.ends (new ++ more))
+    rw (c.if-take_text.ensures.line refl, c.if-take_text.ensures.yes refl)
+    (ap certificate_lines (append_assoc (text_in line) (10 ∷ new) more) ∙ likely.ends (new ++ more))
 
 pub returns-in-Some-clause-short : goal.returns-in-Some-clause-short
 returns-in-Some-clause-short c = λ _.

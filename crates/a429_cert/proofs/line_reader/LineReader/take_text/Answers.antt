@@ -10,4 +10,5 @@ returns-in-Some-clause-yes c = λ _.
 pub returns-in-Some-clause-line : goal.returns-in-Some-clause-line
 returns-in-Some-clause-line c = λ _.
     let s = c.args.self.now in
-    text_held s.buffer (text_in c.args.likely) s.next s.filled c.in-Some.len _ c.in-Some.ensures.inside c.in-Some.ensures.len c.in-Some.ensures.text
+    text_held s.buffer
+    (text_in c.args.likely) s.next s.filled c.in-Some.len _ c.in-Some.ensures.inside c.in-Some.ensures.len c.in-Some.ensures.text

@@ -14,12 +14,14 @@ use Rattle.a429_cert.proofs.ReplayKept.{head_not_read, only_reader}
 use Rattle.a429_cert.proofs.series.Series.add.Goals as goal
 
 pub returns-in-Err-clause-err : goal.returns-in-Err-clause-err
-returns-in-Err-clause-err g c = part_stopped c.args.self (unread g.C.Read.remaining c.args.cert.now) c.args.rec.now.to_come stream.OutOfMemory (inr refl)
+returns-in-Err-clause-err g c =
+    part_stopped c.args.self (unread g.C.Read.remaining c.args.cert.now) c.args.rec.now.to_come stream.OutOfMemory (inr refl)
 
 pub returns-in-Err-begin-clause-err : goal.returns-in-Err-begin-clause-err
 returns-in-Err-begin-clause-err g c =
     let known = unread g.C.Read.remaining c.args.cert.now in
-    part_head c.args.self known (to_come g.C.Read.remaining c.new-lines.result c.args.cert.now) c.args.rec.now.to_come c.in-Err-begin.fault (fresh (bytes_ahead c.new-lines.result) known c.new-lines.ensures.ahead) c.in-Err-begin.ensures.err
+    part_head c.args.self known (to_come g.C.Read.remaining c.new-lines.result c.args.cert.now) c.args.rec.now.to_come c.in-Err-begin.fault
+    (fresh (bytes_ahead c.new-lines.result) known c.new-lines.ensures.ahead) c.in-Err-begin.ensures.err
 
 pub lines-init : goal.lines-init
 lines-init g c =
@@ -30,7 +32,9 @@ lines-init g c =
     let e = c.begin_part-replay.ensures in
     let state : c.begin_part-replay.result.link.state ≡ begun old.profile old.state head.first = ap (λ (l : LinkValue). l.state) e.link in
     let none : length (bytes_ahead c.new-lines.result) ≡ 0 = ap (λ (l : List ℕ). length l) c.new-lines.ensures.ahead in
-    let delivered = subst (λ (q : SeriesValue). (begun q.profile q.state head.first).sink.received.files ≡ []) c.self.view_is (begun_no_files c.self.inside.profile.now c.self.inside.link head.first c.self.invariant) in
+    let delivered =
+    subst (λ (q : SeriesValue). (begun q.profile q.state head.first).sink.received.files ≡ []) c.self.view_is
+    (begun_no_files c.self.inside.profile.now c.self.inside.link head.first c.self.invariant) in
     record {
       head = head;
       walks = record {
@@ -38,7 +42,8 @@ lines-init g c =
         taken = [];
         number = e.lines;
         reports = rw e.used
-            (part_init old head c.begin_part-replay.result.link.state known before (to_come g.C.Read.remaining c.begin.new.lines c.begin.new.cert) c.args.rec.now.to_come
+            (part_init old head c.begin_part-replay.result.link.state known before
+            (to_come g.C.Read.remaining c.begin.new.lines c.begin.new.cert) c.args.rec.now.to_come
             (fresh (bytes_ahead c.new-lines.result) known c.new-lines.ensures.ahead) c.in-Ok-begin.ensures.ok state);
         none_left = ap (λ (t : State). t.sink.received.files) state ∙ delivered;
         noted = e.files ∙ sym (append-nil old.files);
@@ -59,14 +64,17 @@ lines-preserved g c =
     let found : c.in-Ok-take_next.found ≡ true = c.if-not-found.false in
     record {
       head = v.head;
-      walks = part_some _ _ c.args.self (unread g.C.Read.remaining c.args.cert.now) c.args.rec.now.to_come v.head _ _ v.walks (c.in-Ok-take_next.ensures.further found).takes;
+      walks =
+          part_some _ _ c.args.self (unread g.C.Read.remaining c.args.cert.now) c.args.rec.now.to_come v.head _ _ v.walks
+          (c.in-Ok-take_next.ensures.further found).takes;
       room = omega (arith, (c.in-Ok-take_next.ensures.further found).lines, v.room);
     }
 
 pub returns-in-Err-take_next-clause-err : goal.returns-in-Err-take_next-clause-err
 returns-in-Err-take_next-clause-err g c =
     let v = c.lines.invariant in
-    part_at_next _ _ _ c.args.self (unread g.C.Read.remaining c.args.cert.now) c.args.rec.now.to_come v.head _ _ _ c.in-Err-take_next.fault v.walks c.in-Err-take_next.ensures.halted.stops
+    part_at_next _ _ _ c.args.self (unread g.C.Read.remaining c.args.cert.now) c.args.rec.now.to_come v.head _ _ _ c.in-Err-take_next.fault
+    v.walks c.in-Err-take_next.ensures.halted.stops
 
 pub returns-in-Ok-none_left-clause-ok : goal.returns-in-Ok-none_left-clause-ok
 returns-in-Ok-none_left-clause-ok g c =
@@ -78,8 +86,11 @@ returns-in-Ok-none_left-clause-ok g c =
     let v = ended_part c.args.self known c.args.rec.now.to_come h.head _ _ h.walks none in
     record {
       files = v.taken;
-      fits = part_fits c.args.self h.head v.k c.take_next.new.replay.used v.taken c.take_next.new.replay.link.state known left more none.line c.args.rec.now.to_come c.take_next.new.rec.to_come c.none_left.new.rec.to_come c.past.result
-          v.none_left none.given c.in-Ok-none_left.ensures.ok (ap (λ (q : SeriesValue). q.state) c.past.ensures) (ap (λ (q : SeriesValue). q.entries) c.past.ensures) v.reports;
+      fits =
+          part_fits c.args.self h.head v.k c.take_next.new.replay.used v.taken c.take_next.new.replay.link.state known left more none.line
+          c.args.rec.now.to_come c.take_next.new.rec.to_come c.none_left.new.rec.to_come c.past.result
+          v.none_left none.given c.in-Ok-none_left.ensures.ok (ap (λ (q : SeriesValue). q.state) c.past.ensures)
+          (ap (λ (q : SeriesValue). q.entries) c.past.ensures) v.reports;
       more = ap (λ (q : SeriesValue). q.files) c.past.ensures ∙ v.noted;
       profile = ap (λ (q : SeriesValue). q.profile) c.past.ensures ∙ v.profile;
     }
@@ -95,7 +106,8 @@ returns-clause-err g c =
     let more = to_come g.C.Read.remaining c.take_next.new.lines c.take_next.new.cert in
     let none = (c.in-Ok-take_next.ensures.at_end c.if-not-found.true).none in
     let v = ended_part c.args.self known c.args.rec.now.to_come h.head _ _ h.walks none in
-    part_late c.args.self h.head v.k c.take_next.new.replay.used v.taken c.take_next.new.replay.link.state known left more none.line c.args.rec.now.to_come c.take_next.new.rec.to_come c.none_left.new.rec.to_come c.in-Err-none_left.fault
+    part_late c.args.self h.head v.k c.take_next.new.replay.used v.taken c.take_next.new.replay.link.state known left more none.line
+    c.args.rec.now.to_come c.take_next.new.rec.to_come c.none_left.new.rec.to_come c.in-Err-none_left.fault
     none.given c.in-Err-none_left.ensures.err v.reports
 
 pub take_next-requires-clause-sound : goal.take_next-requires-clause-sound
@@ -120,7 +132,10 @@ pub returns-in-Err-clause-read : goal.returns-in-Err-clause-read
 returns-in-Err-clause-read g c = λ e. absurd (cc e)
 
 pub returns-in-Err-begin-clause-read : goal.returns-in-Err-begin-clause-read
-returns-in-Err-begin-clause-read g c = λ e. absurd (head_not_read _ (to_come g.C.Read.remaining c.new-lines.result c.args.cert.now) c.in-Err-begin.fault read.Device c.in-Err-begin.ensures.err (cc e))
+returns-in-Err-begin-clause-read g c =
+    λ e.
+    absurd (head_not_read _
+    (to_come g.C.Read.remaining c.new-lines.result c.args.cert.now) c.in-Err-begin.fault read.Device c.in-Err-begin.ensures.err (cc e))
 
 pub returns-in-Err-take_next-clause-read : goal.returns-in-Err-take_next-clause-read
 returns-in-Err-take_next-clause-read g c = λ e. c.in-Err-take_next.ensures.halted.read (cc e)
@@ -138,7 +153,9 @@ pub returns-in-Err-take_next-clause-device : goal.returns-in-Err-take_next-claus
 returns-in-Err-take_next-clause-device g c = λ e. only_reader _ (c.in-Err-take_next.ensures.halted.device (cc e))
 
 pub past-requires-clause-profile : goal.past-requires-clause-profile
-past-requires-clause-profile g c = rw (c.in-Ok-take_next.ensures.at_end c.if-not-found.true).none.replay (c.lines.invariant.walks.link ∙ sym c.lines.invariant.walks.profile)
+past-requires-clause-profile g c =
+    rw (c.in-Ok-take_next.ensures.at_end c.if-not-found.true).none.replay
+    (c.lines.invariant.walks.link ∙ sym c.lines.invariant.walks.profile)
 
 pub past-requires-clause-files : goal.past-requires-clause-files
 past-requires-clause-files g c = rw (c.in-Ok-take_next.ensures.at_end c.if-not-found.true).none.replay c.lines.invariant.walks.none_left

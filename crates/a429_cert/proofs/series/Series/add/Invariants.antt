@@ -8,7 +8,8 @@ use Rattle.a429_cert.proofs.series.Series.add.Given as goal
 abbrev pub invariant-lines : goal.invariant-lines
 invariant-lines g l = record {
   head : Head;
-  walks : WalksPart l.fn.self (unread g.C.Read.remaining l.fn.cert) l.fn.rec.to_come head l.replay (to_come g.C.Read.remaining l.lines l.cert) l.rec;
+  walks : WalksPart l.fn.self (unread g.C.Read.remaining l.fn.cert) l.fn.rec.to_come head l.replay
+      (to_come g.C.Read.remaining l.lines l.cert) l.rec;
   room : l.replay.lines + room_left l.lines l.cert ≤ left_of l.fn.cert;
 }
 

@@ -12,8 +12,10 @@ returns-then-number-lt100-clause-text c =
 
 pub returns-then-number-lt200-clause-text : goal.returns-then-number-lt200-clause-text
 returns-then-number-lt200-clause-text c =
-    three_digits c.args.number 1 c.args.self.now c.push-then-number-lt200.new.self c.push_pair-then-number-lt200.new.self (omega arith) (omega arith) (omega arith) (omega arith) c.push-then-number-lt200.ensures.text c.push_pair-then-number-lt200.ensures.text
+    three_digits c.args.number 1 c.args.self.now c.push-then-number-lt200.new.self c.push_pair-then-number-lt200.new.self (omega arith)
+    (omega arith) (omega arith) (omega arith) c.push-then-number-lt200.ensures.text c.push_pair-then-number-lt200.ensures.text
 
 pub returns-else-number-lt200-clause-text : goal.returns-else-number-lt200-clause-text
 returns-else-number-lt200-clause-text c =
-    three_digits c.args.number 2 c.args.self.now c.push-else-number-lt200.new.self c.push_pair-else-number-lt200.new.self (omega arith) (omega arith) (omega arith) (omega arith) c.push-else-number-lt200.ensures.text c.push_pair-else-number-lt200.ensures.text
+    three_digits c.args.number 2 c.args.self.now c.push-else-number-lt200.new.self c.push_pair-else-number-lt200.new.self (omega arith)
+    (omega arith) (omega arith) (omega arith) c.push-else-number-lt200.ensures.text c.push_pair-else-number-lt200.ensures.text

@@ -4,5 +4,7 @@ use Rattle.a429_commands.proofs.engines.check.write_text.Goals as goal
 
 pub returns-clause-written : goal.returns-clause-written
 returns-clause-written g c =
-    let written = writes (c.new-sheet.ensures.page ∙ c.requires) c.new-sheet.ensures.out c.put_on.ensures c.finish.ensures.nothing_more c.finish.ensures.written in
+    let written =
+    writes (c.new-sheet.ensures.page ∙ c.requires) c.new-sheet.ensures.out c.put_on.ensures c.finish.ensures.nothing_more
+    c.finish.ensures.written in
     search rules

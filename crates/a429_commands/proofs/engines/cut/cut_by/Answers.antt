@@ -19,13 +19,19 @@ returns-in-Ok-put_list-clause-ends g c =
     let t = task c.args.cut.now.most (taken c.args.rec.now c.write_parts.new.rec) c.write_parts.new.rec.failed in
     let list = c.in-Ok.list.items in
     let same : c.as_slice.result.now ≡ list = search rules in
-    let all = puts_all t c.args.cut.now.profile.now o (g.P.Parts.known c.put_list.new.self) (g.P.Failing.failed c.put_list.new.self) list c.in-Ok.ensures.all.0 (rw same at c.in-Ok-put_list.ensures.ok) in
-    answered 0 list refl (refl, all, (c.in-Ok.ensures.device.0, c.in-Ok-put_list.ensures.works)) c.in-Ok.ensures.device.1 c.in-Ok.ensures.all.1
+    let all =
+    puts_all t c.args.cut.now.profile.now o (g.P.Parts.known c.put_list.new.self)
+    (g.P.Failing.failed c.put_list.new.self) list c.in-Ok.ensures.all.0 (rw same at c.in-Ok-put_list.ensures.ok) in
+    answered 0 list refl
+    (refl, all, (c.in-Ok.ensures.device.0, c.in-Ok-put_list.ensures.works)) c.in-Ok.ensures.device.1 c.in-Ok.ensures.all.1
 
 pub returns-clause-ends : goal.returns-clause-ends
 returns-clause-ends g c =
     let o = placed g.P.Parts.known g.P.Failing.failed c.args.parts.now c.write_parts.new.parts in
     let t = task c.args.cut.now.most (taken c.args.rec.now c.write_parts.new.rec) c.write_parts.new.rec.failed in
     let list = c.in-Ok.list.items in
-    let why = without_list t c.args.cut.now.profile.now o (g.P.Parts.known c.put_list.new.self) (g.P.Failing.failed c.put_list.new.self) list c.in-Ok.ensures.all.0 c.in-Err-put_list.trouble c.in-Err-put_list.ensures.err (λ is. c.in-Err-put_list.ensures.device (ap (λ (t : Trouble). Err t) is)) in
+    let why =
+    without_list t c.args.cut.now.profile.now o (g.P.Parts.known c.put_list.new.self)
+    (g.P.Failing.failed c.put_list.new.self) list c.in-Ok.ensures.all.0 c.in-Err-put_list.trouble c.in-Err-put_list.ensures.err
+    (λ is. c.in-Err-put_list.ensures.device (ap (λ (t : Trouble). Err t) is)) in
     rw c.fault_by.ensures (stopped _ list refl why c.in-Ok.ensures.device.1 c.in-Ok.ensures.all.1)

@@ -10,8 +10,12 @@ use Rattle.a429_commands.proofs.engines.import.import_by.Goals as goal
 pub returns-in_err-finish-clause-err : goal.returns-in_err-finish-clause-err
 returns-in_err-finish-clause-err g c =
     let p = err_from_is_err_and c.from_residual.result c.from_residual.ensures.1 in
-    let first = some_rows g.C.Write.contents c.args.map.now (unread g.R.Read.remaining c.args.export.now) _ _ c.put_import-import.result c.put_import-import.ensures.all c.put_import-import.ensures.until in
-    let written = writes (c.new-sheet.ensures.page ∙ c.requires.page) c.new-sheet.ensures.out first.2 c.in_err-finish.ensures.nothing_more c.in_err-finish.ensures.written in
+    let first =
+    some_rows g.C.Write.contents c.args.map.now (unread g.R.Read.remaining c.args.export.now) _ _ c.put_import-import.result
+    c.put_import-import.ensures.all c.put_import-import.ensures.until in
+    let written =
+    writes (c.new-sheet.ensures.page ∙ c.requires.page) c.new-sheet.ensures.out first.2 c.in_err-finish.ensures.nothing_more
+    c.in_err-finish.ensures.written in
     let prefix = written.prefix in
     let same = says_same_out first.2 in
     let stays = says_same_out c.in_err-finish.ensures.nothing_more in
@@ -23,7 +27,9 @@ returns-in-Ok-clause-ok g c =
     let all = c.in-Ok.ensures.all in
     let done = false_from_ne_true _ (λ broken. absurd (cc (c.in_ok-finish.ensures.device.1 broken))) in
     let works = says_works c.in_ok-finish.ensures.nothing_more done in
-    let written = writes (c.new-sheet.ensures.page ∙ c.requires.page) c.new-sheet.ensures.out all.says c.in_ok-finish.ensures.nothing_more c.in_ok-finish.ensures.written in
+    let written =
+    writes (c.new-sheet.ensures.page ∙ c.requires.page) c.new-sheet.ensures.out all.says c.in_ok-finish.ensures.nothing_more
+    c.in_ok-finish.ensures.written in
     let put = written.all done in
     let same = says_same_out all.says in
     let stays = says_same_out c.in_ok-finish.ensures.nothing_more in
@@ -34,7 +40,9 @@ returns-clause-err g c =
     let until = c.in-Err.ensures.until in
     let export = unread g.R.Read.remaining c.args.export.now in
     let done = false_from_ne_true _ (λ broken. absurd (cc (c.in_ok-finish.ensures.device.1 broken))) in
-    let written = writes (c.new-sheet.ensures.page ∙ c.requires.page) c.new-sheet.ensures.out until.says c.in_ok-finish.ensures.nothing_more c.in_ok-finish.ensures.written in
+    let written =
+    writes (c.new-sheet.ensures.page ∙ c.requires.page) c.new-sheet.ensures.out until.says c.in_ok-finish.ensures.nothing_more
+    c.in_ok-finish.ensures.written in
     let put = written.all done in
     let same = says_same_out until.says in
     let stays = says_same_out c.in_ok-finish.ensures.nothing_more in

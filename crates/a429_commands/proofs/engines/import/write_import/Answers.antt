@@ -15,4 +15,5 @@ returns-in_err-page-clause-err g c =
     rw (p.1, p.2) (refused _ refl c.in_ok-map.ensures.ok.0 refl)
 
 pub returns-clause-err : goal.returns-clause-err
-returns-clause-err g c = IfErr-weaker c.import_by-report.result _ _ (λ e h. ends_by c.in_ok-map.map _ c.in_ok-map.ensures.ok h) c.import_by-report.ensures.err
+returns-clause-err g c =
+    IfErr-weaker c.import_by-report.result _ _ (λ e h. ends_by c.in_ok-map.map _ c.in_ok-map.ensures.ok h) c.import_by-report.ensures.err

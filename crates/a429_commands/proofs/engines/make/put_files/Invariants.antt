@@ -8,5 +8,6 @@ use Rattle.a429_commands.proofs.engines.make.put_files.Given as goal
 abbrev pub invariant-loop-file : goal.invariant-loop-file
 invariant-loop-file g l = record {
   made : AreMade l.profile (map (λ f. f.items) l.files) l.file-index l.number l.count;
-  written : Says g.W.Write.contents l.fn.sheet l.sheet (written_form (timed 0 (take l.count (words_made l.profile (map (λ f. f.items) l.files)))));
+  written : Says g.W.Write.contents l.fn.sheet l.sheet
+      (written_form (timed 0 (take l.count (words_made l.profile (map (λ f. f.items) l.files)))));
 }

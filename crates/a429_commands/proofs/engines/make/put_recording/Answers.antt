@@ -21,7 +21,9 @@ returns-in_err-finish g c =
     let whole = recording_made c.args.profile.now (map (λ f. f.items) c.args.files.now) in
     let text = status.ensures in
     let prefix = prefix_by whole status.result text.0 text.1 in
-    let written = writes (c.new-sheet.ensures.page ∙ c.in_ok-page.ensures) c.new-sheet.ensures.out text.2 c.in_err-finish.ensures.nothing_more c.in_err-finish.ensures.written in
+    let written =
+    writes (c.new-sheet.ensures.page ∙ c.in_ok-page.ensures) c.new-sheet.ensures.out text.2 c.in_err-finish.ensures.nothing_more
+    c.in_err-finish.ensures.written in
     let put = prefix_of_whole _ _ text.0 prefix.0 whole prefix.1 written.prefix in
     let same = says_same_out text.2 in
     let stays = says_same_out c.in_err-finish.ensures.nothing_more in
@@ -34,7 +36,9 @@ returns g c =
     let whole = recording_made c.args.profile.now (map (λ f. f.items) c.args.files.now) in
     let text = status.ensures in
     let done = false_from_ne_true _ (λ failed. absurd (cc (c.in_ok-finish.ensures.device.1 failed))) in
-    let written = writes (c.new-sheet.ensures.page ∙ c.in_ok-page.ensures) c.new-sheet.ensures.out text.2 c.in_ok-finish.ensures.nothing_more c.in_ok-finish.ensures.written in
+    let written =
+    writes (c.new-sheet.ensures.page ∙ c.in_ok-page.ensures) c.new-sheet.ensures.out text.2 c.in_ok-finish.ensures.nothing_more
+    c.in_ok-finish.ensures.written in
     let all = written.all done in
     let same = says_same_out text.2 in
     let stays = says_same_out c.in_ok-finish.ensures.nothing_more in

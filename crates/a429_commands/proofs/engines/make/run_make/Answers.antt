@@ -15,7 +15,10 @@ returns-in_err-profile g c =
 pub returns-in_err-check_files : goal.returns-in_err-check_files
 returns-in_err-check_files g c =
     let p = err_from_is_err_and c.from_residual-in_err-check_files.result c.from_residual-in_err-check_files.ensures.1 in
-    refused _ (p.1 ∙ ap Err p.2) (unmade c.args.profile.now (map (λ f. f.items) c.args.files.now) _ (c.in_ok-profile.profile, c.in_ok-profile.ensures.ok) c.in_err-check_files.ensures.err) refl
+    refused _ (p.1 ∙ ap Err p.2) (unmade c.args.profile.now (map (λ f. f.items) c.args.files.now) _ (
+      c.in_ok-profile.profile,
+      c.in_ok-profile.ensures.ok,
+    ) c.in_err-check_files.ensures.err) refl
 
 pub returns : goal.returns
 returns g c =
@@ -30,4 +33,5 @@ returns g c =
       is = refl;
     } in
     let fault = ComesBy (make_causes c.args.profile.now files) in
-    ends_as (of_recording whole) (of_make c.args.profile.now files) (λ status text h. (h.0, rw h.1 made)) (λ e text h. (h.0, (h.1.0, rw h.1.1 made))) (λ text h. rw h made) (λ e h. subst fault (sym h) made.is_profile.0) c.put_recording.ensures
+    ends_as (of_recording whole) (of_make c.args.profile.now files) (λ status text h. (h.0, rw h.1 made))
+    (λ e text h. (h.0, (h.1.0, rw h.1.1 made))) (λ text h. rw h made) (λ e h. subst fault (sym h) made.is_profile.0) c.put_recording.ensures

@@ -9,8 +9,11 @@ returns-then-is_number-clause-some c =
     let len = c.digits_in.result in
     let front = c.split_at.ensures.front in
     let plain : IsPlain (take len text) = subst IsPlain front (c.is_number.ensures.0 c.if-is_number.true) in
-    let value : c.value_of.result ≡ digits_value 10 (take len text) = c.value_of.ensures.value ∙ ap (digits_value 10) front in
-    (rw c.split_at.ensures.back (is_written text len c.value_of.result c.digits_in.ensures.digits plain value c.value_of.ensures.small), c.value_of.ensures.small, rw c.split_at.ensures.back c.digits_in.ensures.ends)
+    let value : c.value_of.result ≡ digits_value 10 (take len text) = c.value_of.ensures.value ∙ ap (digits_value 10) front in (
+      rw c.split_at.ensures.back (is_written text len c.value_of.result c.digits_in.ensures.digits plain value c.value_of.ensures.small),
+      c.value_of.ensures.small,
+      rw c.split_at.ensures.back c.digits_in.ensures.ends,
+    )
 
 pub returns-else-is_number-clause-none : goal.returns-else-is_number-clause-none
 returns-else-is_number-clause-none c = λ e n rest small none eq.

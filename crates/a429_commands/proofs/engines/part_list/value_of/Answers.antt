@@ -10,7 +10,10 @@ use Rattle.a429_commands.proofs.engines.part_list.value_of.Goals as goal
 pub overflow_mul-number : goal.overflow_mul-number
 overflow_mul-number c =
     let v = c.digits.invariant in
-    omega (arith, room c.digits.len c.digits.number c.args.digits.now v.inside (omega (arith, c.digits-test.true, c.requires.few)) v.number v.all)
+    omega (
+      arith,
+      room c.digits.len c.digits.number c.args.digits.now v.inside (omega (arith, c.digits-test.true, c.requires.few)) v.number v.all,
+    )
 
 pub digit_of-requires : goal.digit_of-requires
 digit_of-requires c = digit_here c.args.digits.now c.digits.len c.requires.digits c.digits-test.true
@@ -19,7 +22,12 @@ pub overflow_add-number : goal.overflow_add-number
 overflow_add-number c =
     let v = c.digits.invariant in
     let small = digit_here c.args.digits.now c.digits.len c.requires.digits c.digits-test.true in
-    omega (arith, room c.digits.len c.digits.number c.args.digits.now v.inside (omega (arith, c.digits-test.true, c.requires.few)) v.number v.all, small, c.digit_of.ensures)
+    omega (
+      arith,
+      room c.digits.len c.digits.number c.args.digits.now v.inside (omega (arith, c.digits-test.true, c.requires.few)) v.number v.all,
+      small,
+      c.digit_of.ensures,
+    )
 
 pub digits-preserved : goal.digits-preserved
 digits-preserved c =
@@ -38,4 +46,5 @@ pub returns-clause-small : goal.returns-clause-small
 returns-clause-small c =
     let v = c.digits.invariant in
     let ds = c.args.digits.now in
-    omega (arith, v.number, digits_value_short own (take c.digits.len ds) 19 v.all (omega (arith, length-take c.digits.len ds, c.requires.few)))
+    omega
+    (arith, v.number, digits_value_short own (take c.digits.len ds) 19 v.all (omega (arith, length-take c.digits.len ds, c.requires.few)))

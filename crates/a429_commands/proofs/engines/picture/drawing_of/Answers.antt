@@ -15,10 +15,13 @@ pub returns-then-is_too_long-clause-err : goal.returns-then-is_too_long-clause-e
 returns-then-is_too_long-clause-err g c =
     let i = input c.args.profile.now g.C.Read.remaining c.args.cert.now c.args.rec.now in
     let said = c.in_ok-judged.ensures in
-    not_pictured i c.args.span c.new-sketch.result c.judge.new.listener c.new-sketch.ensures ((c.judge.new.rec.failed || has_failed c.judge.new.cert) ≡ true) c.in_ok-judged.judged said.judged said.heard (c.is_too_long.ensures.yes c.if-is_too_long.true)
+    not_pictured i c.args.span c.new-sketch.result c.judge.new.listener c.new-sketch.ensures
+    ((c.judge.new.rec.failed || has_failed c.judge.new.cert) ≡ true) c.in_ok-judged.judged said.judged said.heard
+    (c.is_too_long.ensures.yes c.if-is_too_long.true)
 
 pub returns-clause-ok : goal.returns-clause-ok
 returns-clause-ok g c =
     let i = input c.args.profile.now g.C.Read.remaining c.args.cert.now c.args.rec.now in
     let said = c.in_ok-judged.ensures in
-    pictured i c.args.span c.new-sketch.result c.judge.new.listener c.new-sketch.ensures c.in_ok-judged.judged said.judged said.heard (c.is_too_long.ensures.no c.if-is_too_long.false)
+    pictured i c.args.span c.new-sketch.result c.judge.new.listener c.new-sketch.ensures c.in_ok-judged.judged said.judged said.heard
+    (c.is_too_long.ensures.no c.if-is_too_long.false)

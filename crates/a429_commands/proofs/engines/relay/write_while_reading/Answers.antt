@@ -18,4 +18,5 @@ returns-in_err-page g c =
 pub returns : goal.returns
 returns g c =
     let t = taken c.args.rec.now c.put_under-status.new.rec in
-    ends_under g.T.Relay.says g.T.Relay.stops g.T.Relay.begins c.in_ok-profile.profile t c.put_under-status.new.rec.failed c.args.profile.now c.in_ok-profile.ensures.ok c.put_under-status.ensures
+    ends_under g.T.Relay.says g.T.Relay.stops g.T.Relay.begins c.in_ok-profile.profile t c.put_under-status.new.rec.failed
+    c.args.profile.now c.in_ok-profile.ensures.ok c.put_under-status.ensures

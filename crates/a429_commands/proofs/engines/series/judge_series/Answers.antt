@@ -11,4 +11,5 @@ returns-clause-judged g c =
 pub returns-clause-err : goal.returns-clause-err
 returns-clause-err g c =
     let i = series_input c.args.profile.now c.args.list.now (g.P.PartSource.part c.args.parts.now) in
-    fault_of_profile i c.in_ok-profile.profile (g.P.Failing.failed c.judge_list-answer.new.parts ≡ true) c.judge_list-answer.result c.in_ok-profile.ensures.ok c.judge_list-answer.ensures.err
+    fault_of_profile i c.in_ok-profile.profile (g.P.Failing.failed c.judge_list-answer.new.parts ≡ true) c.judge_list-answer.result
+    c.in_ok-profile.ensures.ok c.judge_list-answer.ensures.err

@@ -17,9 +17,14 @@ returns-in_err-page-clause-err g c =
     rw (p.1, p.2) (refused _ refl c.in_ok-profile.ensures.ok.0 refl)
 
 pub returns-clause-ok : goal.returns-clause-ok
-returns-clause-ok g c = IfOk-weaker c.side_by-counts.result _ _ (λ counts is. record { contents = c.in_ok-profile.profile; is_profile = c.in_ok-profile.ensures.ok; sided = is }) c.side_by-counts.ensures.ok
+returns-clause-ok g c =
+    IfOk-weaker c.side_by-counts.result _ _
+    (λ counts is. record { contents = c.in_ok-profile.profile; is_profile = c.in_ok-profile.ensures.ok; sided = is })
+    c.side_by-counts.ensures.ok
 
 pub returns-clause-err : goal.returns-clause-err
 returns-clause-err g c =
     let t = taken c.args.rec.now c.side_by-counts.new.rec in
-    IfErr-weaker c.side_by-counts.result _ _ (λ e h. ends_under NoRows (SidesRowsUntil c.args.side) (SidesSomeRows c.args.side) c.in_ok-profile.profile t c.side_by-counts.new.rec.failed c.args.profile.now c.in_ok-profile.ensures.ok h) c.side_by-counts.ensures.err
+    IfErr-weaker c.side_by-counts.result _ _ (λ e h. ends_under NoRows (SidesRowsUntil c.args.side)
+    (SidesSomeRows c.args.side) c.in_ok-profile.profile t c.side_by-counts.new.rec.failed c.args.profile.now c.in_ok-profile.ensures.ok h)
+    c.side_by-counts.ensures.err

@@ -9,8 +9,12 @@ returns-in_err-profile-clause-err g c =
 
 pub returns-clause-ok : goal.returns-clause-ok
 returns-clause-ok g c =
-    IfOk-weaker c.survey_of-survey.result _ _ (λ s h. surveyed c.args.profile.now c.in_ok-profile.profile c.args.rec.now.to_come s c.in_ok-profile.ensures.ok h) c.survey_of-survey.ensures.ok
+    IfOk-weaker c.survey_of-survey.result _ _
+    (λ s h. surveyed c.args.profile.now c.in_ok-profile.profile c.args.rec.now.to_come s c.in_ok-profile.ensures.ok h)
+    c.survey_of-survey.ensures.ok
 
 pub returns-clause-err : goal.returns-clause-err
 returns-clause-err g c =
-    IfErr-weaker c.survey_of-survey.result _ _ (λ e h. uncounted c.args.profile.now c.in_ok-profile.profile c.args.rec.now.to_come _ e c.in_ok-profile.ensures.ok h) c.survey_of-survey.ensures.err
+    IfErr-weaker c.survey_of-survey.result _ _
+    (λ e h. uncounted c.args.profile.now c.in_ok-profile.profile c.args.rec.now.to_come _ e c.in_ok-profile.ensures.ok h)
+    c.survey_of-survey.ensures.err

@@ -13,7 +13,8 @@ returns-in_err-put_by-in-Ok g c =
 pub returns-in_ok-put_by-in-Ok : goal.returns-in_ok-put_by-in-Ok
 returns-in_ok-put_by-in-Ok g c =
     let text = c.in_ok-put_by-in-Ok.ensures.ok in
-    rw c.in-Ok.is (answered _ text.0 refl text.1 (false_from_ne_true _ (λ failed. absurd (cc (c.in_ok-put_by-in-Ok.ensures.device.1 failed)))) text.2)
+    rw c.in-Ok.is
+    (answered _ text.0 refl text.1 (false_from_ne_true _ (λ failed. absurd (cc (c.in_ok-put_by-in-Ok.ensures.device.1 failed)))) text.2)
 
 pub returns-in-Err : goal.returns-in-Err
 returns-in-Err g c = rw c.in-Err.is (refused _ refl refl refl)

@@ -10,5 +10,6 @@ pub loop-file-preserved : goal.loop-file-preserved
 loop-file-preserved g c =
     let none : Crossing = record { number = 0; bytes = 0 } in
     let here = get_or c.args.files.now c.loop-file.file-index none in
-    rw (flat_map-more size_line c.args.files.now c.loop-file.file-index here c.loop-file-test.true (get_or_default c.args.files.now c.loop-file.file-index none here c.loop-file-test.true))
+    rw (flat_map-more size_line c.args.files.now c.loop-file.file-index here c.loop-file-test.true
+    (get_or_default c.args.files.now c.loop-file.file-index none here c.loop-file-test.true))
     (c.loop-file.invariant ▹ c.put_file.ensures)

@@ -18,4 +18,6 @@ returns-in_ok-write_answer-in-Err-clause-ended g c =
 pub returns-in_err-write_answer-in-Err-clause-part : goal.returns-in_err-write_answer-in-Err-clause-part
 returns-in_err-write_answer-in-Err-clause-part g c =
     let written = rw c.in-Err.is at c.write_answer.ensures.written in
-    rw c.in-Err.is (at_err _ (waited_and g.W.Write.contents c.args.rows.now c.put_waiting.new.self c.write_answer.new.out (no_text c.in-Err.field-0) c.in_ok-put_waiting-in-Err.ensures.ok written.prefix))
+    rw c.in-Err.is
+    (at_err _ (waited_and g.W.Write.contents c.args.rows.now c.put_waiting.new.self c.write_answer.new.out
+    (no_text c.in-Err.field-0) c.in_ok-put_waiting-in-Err.ensures.ok written.prefix))

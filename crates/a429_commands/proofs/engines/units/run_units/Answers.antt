@@ -13,7 +13,8 @@ returns-clause-ends g c =
     let new = c.judge.new in
     let said = c.in_ok-judged.ensures in
     let last = c.end_rows-status in
-    ends_judged g.W.Write.contents i c.args.rows.now new.listener last.new.rows c.in_ok-judged.judged new.rec.failed (has_failed new.cert) last.result c.requires said.judged said.heard said.works said.tried
+    ends_judged g.W.Write.contents i c.args.rows.now new.listener last.new.rows c.in_ok-judged.judged new.rec.failed
+    (has_failed new.cert) last.result c.requires said.judged said.heard said.works said.tried
     last.ensures.ended last.ensures.works last.ensures.err last.ensures.part
 
 pub returns-clause-waits : goal.returns-clause-waits
@@ -28,7 +29,9 @@ returns-in_err-judged-clause-waits g c =
     let p = err_from_is_err_and c.from_residual.result c.from_residual.ensures.1 in
     let new = c.judge.new.listener in
     let before = c.in_err-judged.ensures in
-    rw (p.1, p.2) (leaves_units g.W.Write.contents i c.args.rows.now new _ c.requires (untouched g.W.Write.contents c.args.profile.now c.args.rows.now new _ before.untried) before.until)
+    rw (p.1, p.2)
+    (leaves_units g.W.Write.contents i c.args.rows.now new _ c.requires
+    (untouched g.W.Write.contents c.args.profile.now c.args.rows.now new _ before.untried) before.until)
 
 pub returns-in_err-judged-clause-ends : goal.returns-in_err-judged-clause-ends
 returns-in_err-judged-clause-ends g c =
@@ -37,5 +40,7 @@ returns-in_err-judged-clause-ends g c =
     let Failed = (has_failed new.listener.out || (new.rec.failed || has_failed new.cert)) ≡ true in
     let p = err_from_is_err_and c.from_residual.result c.from_residual.ensures.1 in
     let before = c.in_err-judged.ensures in
-    let left = leaves_units g.W.Write.contents i c.args.rows.now new.listener _ c.requires (untouched g.W.Write.contents c.args.profile.now c.args.rows.now new.listener _ before.untried) before.until in
+    let left =
+    leaves_units g.W.Write.contents i c.args.rows.now new.listener _ c.requires
+    (untouched g.W.Write.contents c.args.profile.now c.args.rows.now new.listener _ before.untried) before.until in
     rw (p.1, p.2) (ends_until g.W.Write.contents i Failed c.args.rows.now new.listener _ c.requires before.untried before.err left)

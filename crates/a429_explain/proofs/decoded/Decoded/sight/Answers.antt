@@ -6,4 +6,5 @@ use Rattle.a429_explain.proofs.decoded.Decoded.sight.Goals as goal
 pub returns : goal.returns
 returns c =
     let seen = c.seen-bus.result in
-    rw c.seen-bus.ensures (subst (λ (h : HeardValue). c.form.result ≡ sight_of h.profile.codes seen.bus seen.word) c.self.view_is c.form.ensures.computed)
+    rw c.seen-bus.ensures
+    (subst (λ (h : HeardValue). c.form.result ≡ sight_of h.profile.codes seen.bus seen.word) c.self.view_is c.form.ensures.computed)

@@ -10,8 +10,10 @@ use Rattle.a429_explain.proofs.planner.Planner.plan_at.Goals as goal
 use Rattle.a429_explain.proofs.planner.Planner.plan_at.Goals.{After-asked}
 
 -- what the role asks for is what the word does
-wants : (a : After-asked) → a.asked.result ≡ wanted (sight_at a.args.decoded.now.profile.codes (slice_get a.args.decoded.now.items a.args.at))
-wants a = a.asked.ensures ∙ asked_is a.args.decoded.now.profile.codes a.args.decoded.now.items a.args.roles.now a.args.at _ a.requires.roles a.requires.inside
+wants : (a : After-asked)
+    → a.asked.result ≡ wanted (sight_at a.args.decoded.now.profile.codes (slice_get a.args.decoded.now.items a.args.at))
+wants a = a.asked.ensures
+    ∙ asked_is a.args.decoded.now.profile.codes a.args.decoded.now.items a.args.roles.now a.args.at _ a.requires.roles a.requires.inside
 
 pub bounds-roles-at : goal.bounds-roles-at
 bounds-roles-at c =
@@ -25,7 +27,8 @@ offset_bounds-roles-at c =
     search rules
 
 pub returns-in_default-clause-planned : goal.returns-in_default-clause-planned
-returns-in_default-clause-planned c = inr (c.if-at-self.false, sym (wants (goal.at.returns-in_default-clause-planned c).After-asked) ∙ c.in_default.is, refl)
+returns-in_default-clause-planned c =
+    inr (c.if-at-self.false, sym (wants (goal.at.returns-in_default-clause-planned c).After-asked) ∙ c.in_default.is, refl)
 
 pub overflow_add-self : goal.overflow_add-self
 overflow_add-self c = omega (arith, c.requires.inside, c.len-length.ensures, c.len-length.type_inv)
@@ -56,7 +59,9 @@ pub returns-in-Ok : goal.returns-in-Ok
 returns-in-Ok c =
     let from = c.group_at-group.ensures.from in
     record {
-      planned = subst (λ n. PlansGroup (with_roles c.args.decoded.now) n c.in-Ok.plan (change c.args.self.now c.plan_group.new.self)) from c.in-Ok.ensures.planned;
+      planned =
+          subst (λ n. PlansGroup (with_roles c.args.decoded.now) n c.in-Ok.plan (change c.args.self.now c.plan_group.new.self)) from
+          c.in-Ok.ensures.planned;
       past = rw (c.in-Ok.ensures.next) c.group_at-group.ensures.some;
       stopped = tt;
       fits = tt;
@@ -66,6 +71,8 @@ pub returns-in-Err : goal.returns-in-Err
 returns-in-Err c = record {
   planned = tt;
   past = tt;
-  stopped = subst (λ n. StopsAt (with_roles c.args.decoded.now) n c.args.self.now c.in-Err.stop) c.group_at-group.ensures.from c.in-Err.ensures.stopped;
+  stopped =
+      subst (λ n. StopsAt (with_roles c.args.decoded.now) n c.args.self.now c.in-Err.stop) c.group_at-group.ensures.from
+      c.in-Err.ensures.stopped;
   fits = c.in-Err.ensures.fits;
 }

@@ -14,12 +14,16 @@ use Rattle.a429_explain.proofs.planner.Planner.plan_group.Goals as goal
 use Rattle.a429_explain.proofs.planner.Planner.plan_group.Goals.{After-place_from-numbers}
 
 -- the group that is found
-found : (a : After-place_from-numbers) → IsGroupAt (annotated a.args.decoded.now.profile a.args.decoded.now.items a.args.roles.now) a.args.self.now a.args.request.group.from a.args.request.count a.args.request.group a.place_from-numbers.result
+found : (a : After-place_from-numbers)
+    → IsGroupAt (annotated a.args.decoded.now.profile a.args.decoded.now.items a.args.roles.now) a.args.self.now a.args.request.group.from
+    a.args.request.count a.args.request.group a.place_from-numbers.result
 found a = record {
   follows = a.requires.follows;
   request = a.requires.request.wants;
   group_is = a.requires.group;
-  numbers_is = a.place_from-numbers.ensures ∙ ap (λ (q : Contents). place_from q.codes a.args.self.now.place a.group_start-start.result) a.profile-profile.ensures.is ∙ ap (place_from a.args.decoded.now.profile.codes a.args.self.now.place) a.group_start-start.ensures;
+  numbers_is = a.place_from-numbers.ensures
+      ∙ ap (λ (q : Contents). place_from q.codes a.args.self.now.place a.group_start-start.result) a.profile-profile.ensures.is
+      ∙ ap (place_from a.args.decoded.now.profile.codes a.args.self.now.place) a.group_start-start.ensures;
 }
 
 pub group_start-start-requires : goal.group_start-start-requires
@@ -36,8 +40,11 @@ pub returns-in-Err-clause-stopped : goal.returns-in-Err-clause-stopped
 returns-in-Err-clause-stopped c =
     let d = c.args.decoded.now in
     let k = found (goal.at.returns-in-Err-clause-stopped c).After-place_from-numbers in
-    let stops = stops_at (annotated d.profile d.items c.args.roles.now) c.args.self.now c.args.request.group.from c.args.request.count c.args.request.group c.place_from-numbers.result c.in-Err.stop k c.in-Err.ensures.first c.in-Err.ensures.crossed_err in
-    subst (λ (rs : List Role). StopsAt (annotated d.profile d.items rs) c.args.request.group.from c.args.self.now c.in-Err.stop) c.requires.roles stops
+    let stops =
+    stops_at (annotated d.profile d.items c.args.roles.now) c.args.self.now c.args.request.group.from c.args.request.count
+    c.args.request.group c.place_from-numbers.result c.in-Err.stop k c.in-Err.ensures.first c.in-Err.ensures.crossed_err in
+    subst (λ (rs : List Role). StopsAt (annotated d.profile d.items rs) c.args.request.group.from c.args.self.now c.in-Err.stop)
+    c.requires.roles stops
 
 pub returns-clause-planned : goal.returns-clause-planned
 returns-clause-planned c =
@@ -58,4 +65,6 @@ returns-clause-planned c =
     ∙ ap (λ (n : UnitNumber). place_after codes n unit c.is_settled.result) k.numbers_is
     ∙ ap (place_after codes (place_at_group codes rs g s.place) unit) c.is_settled.ensures in
     let goes = ap (λ (n : UnitNumber). looking n g.to) follows in
-    subst (λ (q : List Role). PlansGroup (annotated d.profile d.items q) c.args.request.group.from plan (change s t)) c.requires.roles (plans_group (annotated d.profile d.items rs) s t c.args.request.group.from c.args.request.count g numbers plan k refl gives c.in-Ok.ensures.unit c.in-Ok.ensures.crossed goes)
+    subst (λ (q : List Role). PlansGroup (annotated d.profile d.items q) c.args.request.group.from plan (change s t)) c.requires.roles
+    (plans_group (annotated d.profile d.items rs) s t c.args.request.group.from c.args.request.count g numbers plan k refl gives
+    c.in-Ok.ensures.unit c.in-Ok.ensures.crossed goes)

@@ -9,8 +9,10 @@ returns-then-at-self-lt-SCREENED-clause-answer c =
     let s = c.self.inside in
     let at = c.args.at in
     let inside : at < length s.entries.now = subst (λ (v : ScreenedEntries). at < length v.entries) (sym c.self.view_is) c.requires in
-    subst (λ (v : ScreenedEntries). IfSome (slice_get v.entries at) (λ e. get_or s.answers (at - s.from) 0 ≡ screened v.label e.word)) c.self.view_is
-    (answer_at s.label s.entries.now s.answers s.from at (omega (arith, c.if-self-at.true)) (omega (arith, c.if-at-self-lt-SCREENED.true)) inside c.self.invariant)
+    subst (λ (v : ScreenedEntries). IfSome (slice_get v.entries at) (λ e. get_or s.answers (at - s.from) 0 ≡ screened v.label e.word))
+    c.self.view_is
+    (answer_at s.label s.entries.now s.answers s.from at (omega (arith, c.if-self-at.true))
+    (omega (arith, c.if-at-self-lt-SCREENED.true)) inside c.self.invariant)
 
 pub returns-clause-answer : goal.returns-clause-answer
 returns-clause-answer c =

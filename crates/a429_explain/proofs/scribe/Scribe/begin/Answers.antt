@@ -9,15 +9,22 @@ use Rattle.a429_explain.proofs.scribe.Scribe.begin.Goals as goal
 
 pub returns-in-Ok-clause-lossless : goal.returns-in-Ok-clause-lossless
 returns-in-Ok-clause-lossless c = λ can.
-    let k = plan_can c.in-Some.field-0 c.args.self.now.link (subst (λ (o : Option Plan). CanMake (begin_steps o) c.args.self.now.link) c.in-Some.is can) in
-    c.load.ensures.lossless (subst (λ (l : LinkValue). Can l.profile (step.Load c.in-Some.field-0.unit) l.state) (sym c.in-Ok.ensures.reached) k.1)
+    let k =
+    plan_can c.in-Some.field-0 c.args.self.now.link
+    (subst (λ (o : Option Plan). CanMake (begin_steps o) c.args.self.now.link) c.in-Some.is can) in
+    c.load.ensures.lossless (subst (λ (l : LinkValue). Can l.profile (step.Load c.in-Some.field-0.unit) l.state)
+    (sym c.in-Ok.ensures.reached) k.1)
 
 pub returns-in-Ok-clause-reached : goal.returns-in-Ok-clause-reached
 returns-in-Ok-clause-reached c =
-    let made = plan_made c.in-Some.field-0 c.args.self.now.link ∙ ap (λ (o : Option Plan). link_after (begin_steps o) c.args.self.now.link) (sym c.in-Some.is) in
-    on_ok c.load.result c.load.ensures.reached (λ e. e ∙ ap (link_after (step.Load c.in-Some.field-0.unit ∷ [])) c.in-Ok.ensures.reached ∙ made)
+    let made = plan_made c.in-Some.field-0 c.args.self.now.link
+    ∙ ap (λ (o : Option Plan). link_after (begin_steps o) c.args.self.now.link) (sym c.in-Some.is) in
+    on_ok c.load.result c.load.ensures.reached
+    (λ e. e ∙ ap (link_after (step.Load c.in-Some.field-0.unit ∷ [])) c.in-Ok.ensures.reached ∙ made)
 
 pub returns-in-Err-clause-lossless : goal.returns-in-Err-clause-lossless
 returns-in-Err-clause-lossless c = λ can.
-    let k = plan_can c.in-Some.field-0 c.args.self.now.link (subst (λ (o : Option Plan). CanMake (begin_steps o) c.args.self.now.link) c.in-Some.is can) in
+    let k =
+    plan_can c.in-Some.field-0 c.args.self.now.link
+    (subst (λ (o : Option Plan). CanMake (begin_steps o) c.args.self.now.link) c.in-Some.is can) in
     c.in-Err.ensures.lossless k.0

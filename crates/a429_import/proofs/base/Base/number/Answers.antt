@@ -14,7 +14,9 @@ returns-then-number-limit c =
     let inside : i < length text = omega arith in
     let radix = c.from.ensures ∙ c.radix-radix.ensures.value in
     let value : c.digits.number * c.from.result + c.from-in-digits.result ≡ digits_value (radix_of c.args.self) (take (i + 1) text) =
-    rw radix (one_more (radix_of c.args.self) text i c.digits.number c.from-in-digits.result inside c.digits.invariant.number (c.from-in-digits.ensures ∙ c.in_ok-digit_of.ensures.some.1)) in
+    rw radix
+    (one_more (radix_of c.args.self) text i c.digits.number c.from-in-digits.result inside c.digits.invariant.number
+    (c.from-in-digits.ensures ∙ c.in_ok-digit_of.ensures.some.1)) in
     too_large (radix_of c.args.self) c.args.bits text (i + 1) (omega arith) (omega (arith, limit_is c.args.bits c.requires, value))
 
 pub digits-preserved : goal.digits-preserved
@@ -25,8 +27,13 @@ digits-preserved c =
     let digit = c.in_ok-digit_of.ensures.some in
     let radix = c.from.ensures ∙ c.radix-radix.ensures.value in
     record {
-      number = rw radix (one_more (radix_of c.args.self) text i c.digits.number c.from-in-digits.result inside c.digits.invariant.number (c.from-in-digits.ensures ∙ digit.1));
-      digits = digits_more (radix_of c.args.self) text i inside c.digits.invariant.digits (rw (← digit.1, ← c.radix-radix.ensures.value) digit.0);
+      number =
+          rw radix
+          (one_more (radix_of c.args.self) text i c.digits.number c.from-in-digits.result inside c.digits.invariant.number
+          (c.from-in-digits.ensures ∙ digit.1));
+      digits =
+          digits_more (radix_of c.args.self) text i inside c.digits.invariant.digits
+          (rw (← digit.1, ← c.radix-radix.ensures.value) digit.0);
       below = omega (arith, limit_is c.args.bits c.requires);
     }
 
@@ -35,4 +42,5 @@ returns c =
     let text = c.args.digits.now in
     let all = take_all c.digits.byte-index text (omega arith) in
     let some : 1 ≤ length text = grind (arith, nat_tests, c.if-is_empty.ensures) in
-    number_in-is (radix_of c.args.self) c.args.bits text c.digits.number some (rw all at c.digits.invariant.digits) (rw all at c.digits.invariant.number) c.digits.invariant.below
+    number_in-is (radix_of c.args.self) c.args.bits text c.digits.number some (rw all at c.digits.invariant.digits)
+    (rw all at c.digits.invariant.number) c.digits.invariant.below

@@ -8,6 +8,8 @@ pub returns : goal.returns
 returns c =
     let parts = c.args.self.now.map.now.parts in
     let places = c.args.self.now.columns.now.parts in
-    let end : c.loop-k.k ≡ min (length c.as_slice-parts.result.now) (length c.as_slice-places.result.now) = omega (arith, c.min-k-end.ensures) in
+    let end : c.loop-k.k ≡ min (length c.as_slice-parts.result.now) (length c.as_slice-places.result.now) =
+    omega (arith, c.min-k-end.ensures) in
     let last = rw (c.as_slice-parts.ensures.parts, c.as_slice-places.ensures) at end in
-    sym (c.loop-k.invariant ∙ ap (word_after c.loop-k.k c.loop-k.word) (part_values-end parts places (fields_left c.args.self.now.fields) c.loop-k.k last))
+    sym (c.loop-k.invariant
+    ∙ ap (word_after c.loop-k.k c.loop-k.word) (part_values-end parts places (fields_left c.args.self.now.fields) c.loop-k.k last))

@@ -10,6 +10,8 @@ pub returns-in-A-Eot : goal.returns-in-A-Eot
 returns-in-A-Eot c =
     let p = c.args.profile.now in
     let k = c.self.inside.sink.sink in
-    subst (λ (o : Implied). IsTrue c.ends_bad.result ↔ EndsBadForm p c.args.bus (Some c.args.form.now) o.sink.phase o.sink.count) c.self.view_is
+    subst (λ (o : Implied). IsTrue c.ends_bad.result
+    ↔ EndsBadForm p c.args.bus (Some c.args.form.now) o.sink.phase o.sink.count) c.self.view_is
     (subst (λ (b : Bus). IsTrue c.ends_bad.result ↔ EndsBadForm p b (Some c.args.form.now) k.phase k.count) (sym c.in-A-Eot.is-0)
-    (subst (λ (x : Form). IsTrue c.ends_bad.result ↔ EndsBadForm p bus.A (Some x) k.phase k.count) (sym c.in-A-Eot.is-1) (c.ends_bad.ensures c.in-A-Eot.flags-1)))
+    (subst (λ (x : Form). IsTrue c.ends_bad.result ↔ EndsBadForm p bus.A (Some x) k.phase k.count) (sym c.in-A-Eot.is-1)
+    (c.ends_bad.ensures c.in-A-Eot.flags-1)))

@@ -10,7 +10,9 @@ use Rattle.a429_link.proofs.link.Link.carry.Goals.{After-carry}
 at_word : (a : After-carry) → IsAtWord a.self.inside.profile.now a.args.next a.self.inside.transfer
 at_word a = subst (λ (l : LinkValue). IsAtWord l.profile a.args.next l.state) (sym a.self.view_is) a.requires
 
-kept : (a : After-carry) → IsKept a.self.inside.profile.now (after_both a.self.inside.profile.now a.args.next.word a.self.inside.transfer) × StaysBounded a.self.inside.profile.now (sends_word a.args.next.word) a.self.inside.transfer
+kept : (a : After-carry)
+    → IsKept a.self.inside.profile.now (after_both a.self.inside.profile.now a.args.next.word a.self.inside.transfer)
+    × StaysBounded a.self.inside.profile.now (sends_word a.args.next.word) a.self.inside.transfer
 kept a = kept_both a.self.inside.profile.now a.args.next a.self.inside.transfer a.self.invariant (at_word a)
 
 pub invariant_of-self : goal.invariant_of-self
@@ -21,7 +23,8 @@ invariant_of-self c =
 pub returns-clause-allowed : goal.returns-clause-allowed
 returns-clause-allowed c =
     let a = (goal.at.returns-clause-allowed c).After-carry in
-    subst (λ (l : LinkValue). IsRun l.profile (sends_word c.args.next.word) l.state) c.self.view_is (both_run a.self.inside.profile.now a.args.next a.self.inside.transfer (at_word a))
+    subst (λ (l : LinkValue). IsRun l.profile (sends_word c.args.next.word) l.state) c.self.view_is
+    (both_run a.self.inside.profile.now a.args.next a.self.inside.transfer (at_word a))
 
 pub returns-clause-bounds : goal.returns-clause-bounds
 returns-clause-bounds c =

@@ -7,4 +7,5 @@ use Rattle.a429_link.proofs.link.Link.may_load.Goals as goal
 
 pub returns : goal.returns
 returns c = λ u.
-    subst (λ (l : LinkValue). IsLdu l.profile u → (IsTrue c.may_load.result ↔ Can l.profile (step.Load u) l.state)) c.self.view_is (c.may_load.ensures u)
+    subst (λ (l : LinkValue). IsLdu l.profile u → (IsTrue c.may_load.result ↔ Can l.profile (step.Load u) l.state)) c.self.view_is
+    (c.may_load.ensures u)

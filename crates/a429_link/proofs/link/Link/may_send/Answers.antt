@@ -9,4 +9,5 @@ pub returns : goal.returns
 returns c = λ i.
     let ready = c.may_send.ensures c.self.inside.profile.now i in
     let named = named_when_ready c.self.inside.profile.now (step.Sent i) c.self.inside.transfer c.self.invariant in
-    subst (λ (l : LinkValue). IsTrue c.may_send.result ↔ IsNamedStep l.profile (step.Sent i) l.state) c.self.view_is (λ t. named.0 (ready.0 t), λ n. ready.1 (named.1 n))
+    subst (λ (l : LinkValue). IsTrue c.may_send.result ↔ IsNamedStep l.profile (step.Sent i) l.state) c.self.view_is
+    (λ t. named.0 (ready.0 t), λ n. ready.1 (named.1 n))

@@ -14,7 +14,9 @@ pub overflow_cast-result-2 : goal.overflow_cast-result-2
 overflow_cast-result-2 c = omega (arith, (kept_bounded c.self.inside.profile.now c.self.inside.transfer c.self.invariant).answers)
 
 pub returns-clause-bounds : goal.returns-clause-bounds
-returns-clause-bounds c = subst (λ (l : LinkValue). IsBounded l.state) c.self.view_is (kept_bounded c.self.inside.profile.now c.self.inside.transfer c.self.invariant)
+returns-clause-bounds c =
+    subst (λ (l : LinkValue). IsBounded l.state) c.self.view_is
+    (kept_bounded c.self.inside.profile.now c.self.inside.transfer c.self.invariant)
 
 pub returns-clause-states : goal.returns-clause-states
 returns-clause-states c = search rules

@@ -16,7 +16,8 @@ returns-then-see_form-clause-allowed c =
     (λ e. by.1 (c.see_form.ensures.allowed.0 c.if-see_form.true), λ a. refl)
 
 pub returns-then-see_form-clause-taken : goal.returns-then-see_form-clause-taken
-returns-then-see_form-clause-taken c = c.see_form.ensures.taken c.if-see_form.true ∙ sym (sees_sight c.args.profile.now c.args.self.now c.args.seen _ (sym c.in-Form.is ∙ c.form-sight.ensures.computed))
+returns-then-see_form-clause-taken c = c.see_form.ensures.taken c.if-see_form.true
+    ∙ sym (sees_sight c.args.profile.now c.args.self.now c.args.seen _ (sym c.in-Form.is ∙ c.form-sight.ensures.computed))
 
 pub returns-else-see_form-clause-allowed : goal.returns-else-see_form-clause-allowed
 returns-else-see_form-clause-allowed c =

@@ -9,4 +9,5 @@ invariant_of-self-in-Eot c =
     let i = c.args.seen.now in
     let ok = c.if-not-see_form.false in
     subst (λ (x : Observer). Remembers c.self.inside.last c.in-Eot.flags x) (sym (c.see_form.ensures.taken ok))
-    (end_remembered c.args.profile.now c.self.inside.observer i.bus i.word c.args.form.now c.in-Eot.flags c.in-Eot.check c.self.inside.last c.in-Eot.is (c.see_form.ensures.allowed.0 ok) c.self.invariant.0)
+    (end_remembered c.args.profile.now c.self.inside.observer i.bus i.word c.args.form.now c.in-Eot.flags c.in-Eot.check c.self.inside.last
+    c.in-Eot.is (c.see_form.ensures.allowed.0 ok) c.self.invariant.0)

@@ -18,7 +18,9 @@ returns-in-Err-clause-err g c most known first es h current =
 
 pub returns-in-Err-put_complete-clause-err : goal.returns-in-Err-put_complete-clause-err
 returns-in-Err-put_complete-clause-err g c most known first es h current =
-    c.in-Err-put_complete.ensures.err c.args.profile.now most known first (es ++ c.args.entry.now ∷ []) (omega (arith, few_wait c.args.self.now h.holds current, c.in-Ok.ensures.waits)) (record { parts = h.parts; holds = c.in-Ok.ensures.ok most h.parts es h.holds current; puts = h.puts })
+    c.in-Err-put_complete.ensures.err c.args.profile.now most known first (es ++ c.args.entry.now ∷ [])
+    (omega (arith, few_wait c.args.self.now h.holds current, c.in-Ok.ensures.waits))
+    (record { parts = h.parts; holds = c.in-Ok.ensures.ok most h.parts es h.holds current; puts = h.puts })
 
 pub returns-then-failed-clause-err : goal.returns-then-failed-clause-err
 returns-then-failed-clause-err g c most known first es h current =
@@ -27,9 +29,15 @@ returns-then-failed-clause-err g c most known first es h current =
     let ended = c.put_complete.new in
     let holds = c.in-Ok.ensures.ok most h.parts es h.holds current in
     let all = c.in-Ok-put_complete.ensures.ok p most known first now (record { parts = h.parts; holds = holds; puts = h.puts }) in
-    stopped g.W.Write.contents p most known first now false (g.P.Parts.known ended.parts) (g.P.Parts.known ended.parts) ended.sheet ended.sheet ended.self read.Device all (omega (arith, few_wait ended.self all.holds (c.in-Ok-put_complete.ensures.current refl holds.reach))) (same_parts (g.P.Parts.known ended.parts)) (says_nothing g.W.Write.contents ended.sheet) (λ more left. tt)
+    stopped g.W.Write.contents p most known first now false (g.P.Parts.known ended.parts)
+    (g.P.Parts.known ended.parts) ended.sheet ended.sheet ended.self read.Device all
+    (omega (arith, few_wait ended.self all.holds (c.in-Ok-put_complete.ensures.current refl holds.reach)))
+    (same_parts (g.P.Parts.known ended.parts)) (says_nothing g.W.Write.contents ended.sheet) (λ more left. tt)
 
 pub returns-clause-ok : goal.returns-clause-ok
 returns-clause-ok g c most known first es h current =
-    let holds = c.in-Ok.ensures.ok most h.parts es h.holds current in
-    (c.in-Ok-put_complete.ensures.ok c.args.profile.now most known first (es ++ c.args.entry.now ∷ []) (record { parts = h.parts; holds = holds; puts = h.puts }), c.in-Ok-put_complete.ensures.current refl holds.reach)
+    let holds = c.in-Ok.ensures.ok most h.parts es h.holds current in (
+      c.in-Ok-put_complete.ensures.ok c.args.profile.now most known first (es ++ c.args.entry.now ∷ [])
+          (record { parts = h.parts; holds = holds; puts = h.puts }),
+      c.in-Ok-put_complete.ensures.current refl holds.reach,
+    )

@@ -13,7 +13,8 @@ invariant-parts g l = record {
   reach : IsInReach l.initial.self.cutter → IsInReach l.self.cutter;
   few : length l.self.cutter.waiting ≤ length l.initial.self.cutter.waiting;
   goes : (p : Contents) (most : ℕ) (known : Option PutParts) (first : Sheet g.row.W.Denot) (es : List Entry)
-      → Progress p most l.at_end (outputs g.W.Write.contents known (g.P.Parts.known l.initial.parts) first l.initial.sheet) es l.initial.self
+      → Progress p most l.at_end
+      (outputs g.W.Write.contents known (g.P.Parts.known l.initial.parts) first l.initial.sheet) es l.initial.self
       → Progress p most l.at_end (outputs g.W.Write.contents known (g.P.Parts.known l.parts) first l.sheet) es l.self;
 }
 

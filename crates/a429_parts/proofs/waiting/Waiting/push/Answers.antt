@@ -14,8 +14,12 @@ invariant_of-self-2 c =
     elim c.if-is_empty.branch [
       | then-is_empty+then-has_room+in_ok-append_to w ↦
           let none = none_in s.after.items s.after.len (omega (arith, s.after.ok.0)) (sym c.is_empty.ensures ∙ w.if-is_empty.true) in
-          let new = line_pushed s.before.items s.lines.items c.args.line.now w.append_to.new.text.items s.after.items e c.self.invariant.0 (omega arith) (omega arith) c.requires none w.in_ok-append_to.ensures.ok in
-          let end = end_stays s.lines.items c.args.line.now w.append_to.new.text.items e s.noted c.self.invariant.0 (omega arith) (omega arith) c.requires w.in_ok-append_to.ensures.ok c.self.invariant.2 in
+          let new =
+          line_pushed s.before.items s.lines.items c.args.line.now w.append_to.new.text.items s.after.items e c.self.invariant.0
+          (omega arith) (omega arith) c.requires none w.in_ok-append_to.ensures.ok in
+          let end =
+          end_stays s.lines.items c.args.line.now w.append_to.new.text.items e s.noted c.self.invariant.0 (omega arith)
+          (omega arith) c.requires w.in_ok-append_to.ensures.ok c.self.invariant.2 in
           rw w.self-inside-is (new.0, omega (arith, c.in-Some.ensures, ap length new.1, length_push all e), end)
       | else-is_empty+in_ok-push w ↦
           let new = entry_pushed s.before.items s.lines.items s.after.items w.push.new.self.items e w.in_ok-push.ensures.items in
@@ -30,7 +34,9 @@ returns-clause-ok c =
     elim c.if-is_empty.branch [
       | then-is_empty+then-has_room+in_ok-append_to w ↦
           let none = none_in s.after.items s.after.len (omega (arith, s.after.ok.0)) (sym c.is_empty.ensures ∙ w.if-is_empty.true) in
-          let new = line_pushed s.before.items s.lines.items c.args.line.now w.append_to.new.text.items s.after.items e c.self.invariant.0 (omega arith) (omega arith) c.requires none w.in_ok-append_to.ensures.ok in
+          let new =
+          line_pushed s.before.items s.lines.items c.args.line.now w.append_to.new.text.items s.after.items e c.self.invariant.0
+          (omega arith) (omega arith) c.requires none w.in_ok-append_to.ensures.ok in
           rw w.self-inside-is (new.1 ∙ after)
       | else-is_empty+in_ok-push w ↦
           let new = entry_pushed s.before.items s.lines.items s.after.items w.push.new.self.items e w.in_ok-push.ensures.items in

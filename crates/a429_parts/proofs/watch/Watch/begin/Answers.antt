@@ -12,4 +12,5 @@ returns-clause-follows c =
     let new : Watched = record { count = c.self.inside.count; observer = Some c.see.new.self; doubt = Some (Anew c.self.inside.count) } in
     follows_begun c.args.profile.now i c.args.self.now new c.see.new.self c.see.result c.requires.lost
     (subst (λ (f : Option Form). IsRequest i.bus f) (sym c.requires.form) c.requires.request)
-    (rw c.new.ensures at c.see.ensures.allowed.1) (rw c.new.ensures at c.see.ensures.taken) (ap (λ (v : Watched). v.count) c.self.view_is) refl (ap (λ (v : Watched). Some (Anew v.count)) c.self.view_is)
+    (rw c.new.ensures at c.see.ensures.allowed.1) (rw c.new.ensures at c.see.ensures.taken)
+    (ap (λ (v : Watched). v.count) c.self.view_is) refl (ap (λ (v : Watched). Some (Anew v.count)) c.self.view_is)

@@ -7,16 +7,24 @@ use Rattle.a429_parts.proofs.watch.Watch.follow.Goals as goal
 
 pub returns-in-Ok-Some-clause-follows : goal.returns-in-Ok-Some-clause-follows
 returns-in-Ok-Some-clause-follows c =
-    follows_crossed c.args.profile.now c.args.seen.now c.args.self.now c.cross.new.self c.self.inside.follower c.in-Ok-Some.unit (search rules) (search rules) (search rules) (search rules) (search rules) (search rules)
+    follows_crossed c.args.profile.now c.args.seen.now c.args.self.now c.cross.new.self c.self.inside.follower c.in-Ok-Some.unit
+    (search rules) (search rules) (search rules) (search rules) (search rules) (search rules)
 
 pub returns-in-Ok-None-clause-follows : goal.returns-in-Ok-None-clause-follows
 returns-in-Ok-None-clause-follows c =
-    let new : Watched = record { count = c.self.inside.count; observer = if c.self.inside.is_lost then None else Some c.see.new.self; doubt = c.self.inside.doubt } in
-    follows_seen c.args.profile.now c.args.seen.now c.args.self.now new c.self.inside.follower (search rules) (search rules) (search rules) (search rules) (search rules) (search rules)
+    let new : Watched = record {
+      count = c.self.inside.count;
+      observer =
+          if c.self.inside.is_lost then None else Some c.see.new.self;
+      doubt = c.self.inside.doubt;
+    } in
+    follows_seen c.args.profile.now c.args.seen.now c.args.self.now new c.self.inside.follower (search rules) (search rules) (search rules)
+    (search rules) (search rules) (search rules)
 
 pub returns-in-Err-clause-follows : goal.returns-in-Err-clause-follows
 returns-in-Err-clause-follows c =
-    follows_lost c.args.profile.now c.args.seen.now c.args.self.now c.lose.new.self c.self.inside.follower (search rules) (search rules) (search rules) (search rules) (search rules)
+    follows_lost c.args.profile.now c.args.seen.now c.args.self.now c.lose.new.self c.self.inside.follower (search rules) (search rules)
+    (search rules) (search rules) (search rules)
 
 pub returns-else-is_request-clause-follows : goal.returns-else-is_request-clause-follows
 returns-else-is_request-clause-follows c =

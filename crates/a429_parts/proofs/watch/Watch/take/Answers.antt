@@ -7,5 +7,8 @@ pub returns-clause-takes : goal.returns-clause-takes
 returns-clause-takes c = record {
   seen = c.see-place.new.self;
   sees = c.see-place.ensures.sees;
-  counts = watched_is _ (suc c.args.self.now.count) c.see-place.new.self.observer c.see-place.new.self.doubt (omega (arith, ap (λ (v : Watched). v.count) c.self.view_is, c.see-place.ensures.counts)) (ap (λ (v : Watched). v.observer) c.self.view_is) (ap (λ (v : Watched). v.doubt) c.self.view_is);
+  counts =
+      watched_is _ (suc c.args.self.now.count) c.see-place.new.self.observer c.see-place.new.self.doubt
+      (omega (arith, ap (λ (v : Watched). v.count) c.self.view_is, c.see-place.ensures.counts))
+      (ap (λ (v : Watched). v.observer) c.self.view_is) (ap (λ (v : Watched). v.doubt) c.self.view_is);
 }

@@ -4,7 +4,11 @@ use Rattle.a429_profile.specs.Profile.{Kept}
 use Rattle.a429_profile.proofs.profile.Profile.entries.Goals as goal
 
 pub returns-in-Some : goal.returns-in-Some
-returns-in-Some c = rw (← c.self.view_is, slice_get-map (λ (e : Kept). e.1) c.self.inside.labels.entries c.args.i) (ap (option_map (λ (e : Kept). e.1)) c.in-Some.ensures.entry)
+returns-in-Some c =
+    rw (← c.self.view_is, slice_get-map (λ (e : Kept). e.1) c.self.inside.labels.entries c.args.i)
+    (ap (option_map (λ (e : Kept). e.1)) c.in-Some.ensures.entry)
 
 pub returns-in-None : goal.returns-in-None
-returns-in-None c = rw (← c.self.view_is, slice_get-map (λ (e : Kept). e.1) c.self.inside.labels.entries c.args.i) (ap (option_map (λ (e : Kept). e.1)) c.in-None.ensures.entry)
+returns-in-None c =
+    rw (← c.self.view_is, slice_get-map (λ (e : Kept). e.1) c.self.inside.labels.entries c.args.i)
+    (ap (option_map (λ (e : Kept). e.1)) c.in-None.ensures.entry)

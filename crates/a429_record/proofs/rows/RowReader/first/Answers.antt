@@ -11,7 +11,9 @@ use Rattle.a429_record.proofs.HandedFormats.{failed_magic, failed_binary, piece_
 use Rattle.a429_record.proofs.rows.RowReader.first.Goals as goal
 
 pub returns-in-Err-clause-before : goal.returns-in-Err-clause-before
-returns-in-Err-clause-before g c failed = failed_magic c.args.self.now.most (pending_of g.R.Read.remaining c.args.self.now.lines c.args.rec.now) (unread g.R.Read.remaining c.format.new.rec) c.in-Err.ensures.before
+returns-in-Err-clause-before g c failed =
+    failed_magic c.args.self.now.most (pending_of g.R.Read.remaining c.args.self.now.lines c.args.rec.now)
+    (unread g.R.Read.remaining c.format.new.rec) c.in-Err.ensures.before
 
 pub returns-in-Binary-clause-lines : goal.returns-in-Binary-clause-lines
 returns-in-Binary-clause-lines g c =
@@ -28,7 +30,8 @@ returns-in-Binary-clause-before g c failed =
     let a = pending_of g.R.Read.remaining c.args.self.now.lines c.args.rec.now in
     let b = pending_of g.R.Read.remaining c.format.new.self c.format.new.rec in
     let chosen : Chooses format.Binary a b = rw c.in-Binary.is at c.in-Ok.ensures.chosen in
-    failed_binary c.args.self.now.most a b (unread g.R.Read.remaining c.next_piece.new.rec) c.args.self.now.count c.requires.0.0 chosen (c.next_piece.ensures.before failed)
+    failed_binary c.args.self.now.most a b (unread g.R.Read.remaining c.next_piece.new.rec) c.args.self.now.count c.requires.0.0 chosen
+    (c.next_piece.ensures.before failed)
 
 pub format-requires-clause-works : goal.format-requires-clause-works
 format-requires-clause-works g c = search rules

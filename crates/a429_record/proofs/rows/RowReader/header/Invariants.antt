@@ -9,7 +9,8 @@ use Rattle.a429_record.proofs.rows.RowReader.header.Given as goal
 abbrev pub invariant-lines : goal.invariant-lines
 invariant-lines g l = record {
   rows : AreRows (rows_left g.R.Read.remaining l.initial.self l.initial.rec) (pending_of g.R.Read.remaining l.self.lines l.rec);
-  blank : Loses (AreLines (λ rows. rows ≡ [])) (pending_of g.R.Read.remaining l.initial.self.lines l.initial.rec) (pending_of g.R.Read.remaining l.self.lines l.rec);
+  blank : Loses (AreLines (λ rows. rows ≡ [])) (pending_of g.R.Read.remaining l.initial.self.lines l.initial.rec)
+      (pending_of g.R.Read.remaining l.self.lines l.rec);
   format : l.self.format ≡ l.initial.self.format;
   most : l.self.most ≡ l.initial.self.most;
   count : l.self.count ≡ l.initial.self.count;

@@ -12,5 +12,7 @@ returns c =
     let p = c.args.before.now.profile in
     let s = c.args.self.now in
     let d = c.in_ok-doing.doing in
-    rw c.by_doing.ensures (bad_by p (known_by s.sink s.witness.observer s.witness.so_far) c.args.before.now.items c.args.word c.args.flags c.args.check d
-    (subst (λ (q : Contents). d ≡ does q bus.A c.args.word (Eot c.args.flags c.args.check) s.sink.sink) c.profile.ensures.is c.in_ok-doing.ensures.does))
+    rw c.by_doing.ensures
+    (bad_by p (known_by s.sink s.witness.observer s.witness.so_far) c.args.before.now.items c.args.word c.args.flags c.args.check d
+    (subst (λ (q : Contents). d ≡ does q bus.A c.args.word (Eot c.args.flags c.args.check) s.sink.sink) c.profile.ensures.is
+    c.in_ok-doing.ensures.does))

@@ -10,11 +10,16 @@ loop-place-preserved c =
     let old = c.loop-place.next.items in
     let next = c.carry_on.new.next.items in
     let x = c.index-hypotheses-place.result in (
-      λ whole t sound may. one_carried p hyps next t c.loop-place.place x (slice_get_read hyps _ c.loop-place.place x refl c.loop-place-test.true c.index-hypotheses-place.is)
-          (λ k h l is covers. covered_kept p old next t c.in_ok-carry_on.ensures.kept (c.loop-place.invariant.0 (uncut c.loop-place.self.budget.is_cut c.carry_on.new.self.budget.is_cut c.in_ok-carry_on.ensures.cut whole) t sound may k h l is covers))
+      λ whole t sound may. one_carried p hyps next t c.loop-place.place x
+          (slice_get_read hyps _ c.loop-place.place x refl c.loop-place-test.true c.index-hypotheses-place.is)
+          (λ k h l is covers. covered_kept p old next t c.in_ok-carry_on.ensures.kept
+          (c.loop-place.invariant.0 (uncut c.loop-place.self.budget.is_cut c.carry_on.new.self.budget.is_cut c.in_ok-carry_on.ensures.cut
+          whole) t sound may k h l is covers))
           (λ covers. c.in_ok-carry_on.ensures.covers whole t sound may covers),
       c.in_ok-carry_on.ensures.at c.loop-place.invariant.1,
     )
 
 pub returns-clause-covers : goal.returns-clause-covers
-returns-clause-covers c = λ whole t sound may. all_carried c.args.profile.now c.args.hypotheses.now c.loop-place.next.items t c.loop-place.place (omega (arith, c.loop-place-test.false)) (c.loop-place.invariant.0 whole t sound may)
+returns-clause-covers c =
+    λ whole t sound may. all_carried c.args.profile.now c.args.hypotheses.now c.loop-place.next.items t c.loop-place.place
+    (omega (arith, c.loop-place-test.false)) (c.loop-place.invariant.0 whole t sound may)

@@ -7,5 +7,6 @@ use Rattle.a429_search.proofs.searching.Carrier.carried.Given as goal
 
 abbrev pub invariant-loop-place : goal.invariant-loop-place
 invariant-loop-place l =
-    (l.self.budget.is_cut ≡ false → (t : Assigned) → IsSound l.profile t → MayBeTo l.profile l.attempt t → (k : ℕ) (h : Hypothesis) → k < l.place → slice_get l.hypotheses k ≡ Some h → Covers l.profile h t → AreCovered l.profile l.next.items t)
+    (l.self.budget.is_cut ≡ false → (t : Assigned) → IsSound l.profile t → MayBeTo l.profile l.attempt t → (k : ℕ) (h : Hypothesis)
+    → k < l.place → slice_get l.hypotheses k ≡ Some h → Covers l.profile h t → AreCovered l.profile l.next.items t)
     × AreAt (number_of l.attempt.start) l.next.items

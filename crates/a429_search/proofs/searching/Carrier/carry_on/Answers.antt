@@ -8,8 +8,11 @@ returns-then-ways-clause-covers c = λ whole t sound may covers.
     let p = c.args.profile.now in
     let a = c.args.attempt.now in
     let h = c.args.hypothesis.now in
-    let all = ways_cover p a h.standing c.codes.result.now c.number.result c.is_some-has_group.result c.ways-ways.result c.codes.ensures.codes c.number.ensures c.ways-ways.ensures.covers in
-    carried_on p h c.ways-ways.result (number_of a.start) c.is_some-has_group.result t (AreCovered p c.join.new.next.items t) all c.is_some-has_group.ensures sound (named p a t may) covers
+    let all =
+    ways_cover p a h.standing c.codes.result.now c.number.result c.is_some-has_group.result c.ways-ways.result c.codes.ensures.codes
+    c.number.ensures c.ways-ways.ensures.covers in
+    carried_on p h c.ways-ways.result (number_of a.start) c.is_some-has_group.result t
+    (AreCovered p c.join.new.next.items t) all c.is_some-has_group.ensures sound (named p a t may) covers
     (λ fits. c.in_ok-joins.ensures.covers whole t may.unit fits)
     (λ b. c.in_ok-joins.ensures.later c.if-joins.true t (all.last c.if-ways.true t.number t.give_ups b))
 
@@ -18,10 +21,15 @@ returns-clause-covers c = λ whole t sound may covers.
     let p = c.args.profile.now in
     let a = c.args.attempt.now in
     let h = c.args.hypothesis.now in
-    let all = ways_cover p a h.standing c.codes.result.now c.number.result c.is_some-has_group.result c.ways-ways.result c.codes.ensures.codes c.number.ensures c.ways-ways.ensures.covers in
-    carried_on p h c.ways-ways.result (number_of a.start) c.is_some-has_group.result t (AreCovered p c.begin.new.next.items t) all c.is_some-has_group.ensures sound (named p a t may) covers
-    (λ fits. then_too c.ways-ways.result.join (λ j. IsAmong p.codes.first_ldu j t) (AreCovered p c.join.new.next.items t) (AreCovered p c.begin.new.next.items t) (covered_kept p c.join.new.next.items c.begin.new.next.items t c.in_ok-begin.ensures.kept)
-    (c.in_ok-joins.ensures.covers (uncut c.join.new.self.budget.is_cut c.begin.new.self.budget.is_cut c.in_ok-begin.ensures.cut whole) t may.unit fits))
+    let all =
+    ways_cover p a h.standing c.codes.result.now c.number.result c.is_some-has_group.result c.ways-ways.result c.codes.ensures.codes
+    c.number.ensures c.ways-ways.ensures.covers in
+    carried_on p h c.ways-ways.result (number_of a.start) c.is_some-has_group.result t
+    (AreCovered p c.begin.new.next.items t) all c.is_some-has_group.ensures sound (named p a t may) covers
+    (λ fits. then_too c.ways-ways.result.join (λ j. IsAmong p.codes.first_ldu j t) (AreCovered p c.join.new.next.items t)
+    (AreCovered p c.begin.new.next.items t) (covered_kept p c.join.new.next.items c.begin.new.next.items t c.in_ok-begin.ensures.kept)
+    (c.in_ok-joins.ensures.covers (uncut c.join.new.self.budget.is_cut c.begin.new.self.budget.is_cut c.in_ok-begin.ensures.cut whole) t
+    may.unit fits))
     (λ b. c.in_ok-begin.ensures.covers whole t may.unit b)
 
 pub returns-clause-kept : goal.returns-clause-kept
@@ -31,5 +39,7 @@ pub returns-clause-at : goal.returns-clause-at
 returns-clause-at c = λ old.
     let p = c.args.profile.now in
     let a = c.args.attempt.now in
-    let all = ways_cover p a c.args.hypothesis.now.standing c.codes.result.now c.number.result c.is_some-has_group.result c.ways-ways.result c.codes.ensures.codes c.number.ensures c.ways-ways.ensures.covers in
+    let all =
+    ways_cover p a c.args.hypothesis.now.standing c.codes.result.now c.number.result c.is_some-has_group.result c.ways-ways.result
+    c.codes.ensures.codes c.number.ensures c.ways-ways.ensures.covers in
     c.in_ok-begin.ensures.at (number_of a.start) all.begin_at (c.in_ok-joins.ensures.at (number_of a.start) all.join_at old)

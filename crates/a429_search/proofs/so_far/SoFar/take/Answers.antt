@@ -5,4 +5,6 @@ use Rattle.a429_search.specs.SoFar.{unheard}
 use Rattle.a429_search.proofs.so_far.SoFar.take.Goals as goal
 
 pub returns-in-B : goal.returns-in-B
-returns-in-B c = subst (λ (b : Bus). unheard c.take_answer.new.self ≡ unheard (so_far_after b c.args.seen.word (Some c.args.form.now) c.args.self.now)) (sym c.in-B.is) (c.take_answer.ensures c.args.seen.word)
+returns-in-B c =
+    subst (λ (b : Bus). unheard c.take_answer.new.self ≡ unheard (so_far_after b c.args.seen.word (Some c.args.form.now) c.args.self.now))
+    (sym c.in-B.is) (c.take_answer.ensures c.args.seen.word)

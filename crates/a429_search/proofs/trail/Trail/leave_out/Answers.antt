@@ -9,4 +9,5 @@ loop-hypothesis-preserved c = λ p t covered.
     let moved : List Hypothesis = c.loop-hypothesis.moved.items in
     let rest : List Hypothesis = c.next.new.self.rest.items in
     subst (λ (l : List Hypothesis). AreCovered p (l ++ rest) t) (sym c.in_ok-push.ensures.items)
-    (moved_one p t moved rest c.in-Some.hypothesis _ refl refl (subst (λ (l : List Hypothesis). AreCovered p (moved ++ l) t) c.in-Some.ensures.steps.0 (c.loop-hypothesis.invariant p t covered)))
+    (moved_one p t moved rest c.in-Some.hypothesis _ refl refl
+    (subst (λ (l : List Hypothesis). AreCovered p (moved ++ l) t) c.in-Some.ensures.steps.0 (c.loop-hypothesis.invariant p t covered)))

@@ -5,4 +5,5 @@ use Rattle.a429_search.specs.Frontier.{AreCovered}
 use Rattle.a429_search.proofs.trail.Trail.leave_out.Given as goal
 
 abbrev pub invariant-loop-hypothesis : goal.invariant-loop-hypothesis
-invariant-loop-hypothesis l = (p : Contents) (t : Assigned) → AreCovered p l.fn.hypotheses.items t → AreCovered p (l.moved.items ++ l.hypothesis-iterator.rest.items) t
+invariant-loop-hypothesis l = (p : Contents) (t : Assigned)
+    → AreCovered p l.fn.hypotheses.items t → AreCovered p (l.moved.items ++ l.hypothesis-iterator.rest.items) t

@@ -10,5 +10,8 @@ returns c = record {
   of_other = refl;
   of_none = refl;
   renamed = refl;
-  destinations = record { code_count = refl; each = λ d l. subst (λ h. IsDestinationCount h []) (sym (get_or-replicate 256 d no_words no_words l)) (refl, refl) };
+  destinations = record {
+    code_count = refl;
+    each = λ d l. subst (λ h. IsDestinationCount h []) (sym (get_or-replicate 256 d no_words no_words l)) (refl, refl);
+  };
 }

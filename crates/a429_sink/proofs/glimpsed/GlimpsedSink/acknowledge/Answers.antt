@@ -22,21 +22,33 @@ returns c =
     let said : Accepted = record { unit = unit; files = c.in_ok-files.files } in
     let owed = sym c.in-Some.ensures in
     let assumed = assumed_for last (latest_number unit) st in
-    let before : c.assume_last.new.self ≡ assuming assumed s.implied = c.assume_last.ensures ∙ ap (λ (l : Option Number). assuming l s.implied) c.assumed_for.ensures in
-    let implied : c.hand_out.new.self ≡ acked_with p file ldu assumed s.implied = c.in_ok-files.ensures.taken ∙ ap (λ (i : Implied). implies_form p bus.B 0 (Some (form.Ack file ldu)) i) before in
+    let before : c.assume_last.new.self ≡ assuming assumed s.implied =
+    c.assume_last.ensures ∙ ap (λ (l : Option Number). assuming l s.implied) c.assumed_for.ensures in
+    let implied : c.hand_out.new.self ≡ acked_with p file ldu assumed s.implied =
+    c.in_ok-files.ensures.taken ∙ ap (λ (i : Implied). implies_form p bus.B 0 (Some (form.Ack file ldu)) i) before in
     let files = c.in_ok-files.ensures.files ∙ ap (λ (i : Implied). (answers p.codes (form.Ack file ldu) i.sink).received.files) before in
     let whole : c.if-is_whole.self ≡ (is_whole_with st && not unit.is_final) =
     elim c.if-is_whole.branch [
-      | then-is_whole w ↦ and_then c.if-is_whole.self (not unit.is_final) (is_whole_with st) c.is_whole.result c.is_whole.ensures w.if-is_whole.true w.self-is
-      | else-is_whole w ↦ and_else c.if-is_whole.self (not unit.is_final) (is_whole_with st) c.is_whole.result c.is_whole.ensures w.if-is_whole.false (w.self-is ∙ w.if-is_whole.false)
+      | then-is_whole w ↦
+          and_then c.if-is_whole.self (not unit.is_final)
+          (is_whole_with st) c.is_whole.result c.is_whole.ensures w.if-is_whole.true w.self-is
+      | else-is_whole w ↦
+          and_else c.if-is_whole.self (not unit.is_final) (is_whole_with st) c.is_whole.result c.is_whole.ensures w.if-is_whole.false
+          (w.self-is ∙ w.if-is_whole.false)
     ] in
     record {
       taken = λ w.
-          subst (λ (i : Implied). glimpse_of (record s { implied = i; last = Some unit; is_whole = c.if-is_whole.self }) ≡ glimpses_form p bus.B w (Some (form.Ack file ldu)) (glimpse_of s)) (sym implied)
+          subst (λ (i : Implied). glimpse_of (record s { implied = i; last = Some unit; is_whole = c.if-is_whole.self })
+          ≡ glimpses_form p bus.B w (Some (form.Ack file ldu)) (glimpse_of s))
+          (sym implied)
           (ack_taken p w file ldu s unit assumed c.if-is_whole.self c.requires.known owed);
       follows = λ w.
-          subst (λ (b : Bool). FollowsForm p bus.B w (Some (form.Ack file ldu)) s (record s { implied = c.hand_out.new.self; last = Some unit; is_whole = b }) (Some said)) (sym whole)
-          (subst (λ (i : Implied). FollowsForm p bus.B w (Some (form.Ack file ldu)) s (record s { implied = i; last = Some unit; is_whole = is_whole_with st && not unit.is_final }) (Some said)) (sym implied)
-          (new_follows p w file ldu s st said c.requires.known c.requires.allowed owed c.step_to-step.ensures (new_of st c.in_default-step.not-Again) files));
+          subst (λ (b : Bool). FollowsForm p bus.B w (Some (form.Ack file ldu)) s
+          (record s { implied = c.hand_out.new.self; last = Some unit; is_whole = b }) (Some said))
+          (sym whole)
+          (subst (λ (i : Implied). FollowsForm p bus.B w (Some (form.Ack file ldu)) s
+          (record s { implied = i; last = Some unit; is_whole = is_whole_with st && not unit.is_final }) (Some said)) (sym implied)
+          (new_follows p w file ldu s st said c.requires.known c.requires.allowed owed c.step_to-step.ensures
+          (new_of st c.in_default-step.not-Again) files));
       unchanged = tt;
     }

@@ -6,5 +6,7 @@ use Rattle.a429_sink.proofs.glimpsed.GlimpsedSink.take.Goals as goal
 
 pub returns-in-B-clause-follows : goal.returns-in-B-clause-follows
 returns-in-B-clause-follows c =
-    subst (λ (b : Bus). IfOk c.take_answer.result (FollowsForm c.args.profile.now b c.args.seen.word (Some c.args.form.now) c.args.self.now c.take_answer.new.self)) (sym c.in-B.is)
+    subst (λ (b : Bus). IfOk c.take_answer.result
+    (FollowsForm c.args.profile.now b c.args.seen.word (Some c.args.form.now) c.args.self.now c.take_answer.new.self))
+    (sym c.in-B.is)
     (IfOk-weaker c.take_answer.result _ _ (λ said h. h c.args.seen.word) c.take_answer.ensures.follows)

@@ -8,8 +8,12 @@ use Rattle.a429_sink.proofs.glimpsed.GlimpsedSink.take_answer.Goals as goal
 
 pub returns-in-Ack-clause-taken : goal.returns-in-Ack-clause-taken
 returns-in-Ack-clause-taken c =
-    subst (λ (x : Form). OnOk c.acknowledge.result ((w : ℕ) → glimpse_of c.acknowledge.new.self ≡ glimpses_form c.args.profile.now bus.B w (Some x) (glimpse_of c.args.self.now))) (sym c.in-Ack.is) c.acknowledge.ensures.taken
+    subst (λ (x : Form). OnOk c.acknowledge.result ((w : ℕ)
+    → glimpse_of c.acknowledge.new.self ≡ glimpses_form c.args.profile.now bus.B w (Some x) (glimpse_of c.args.self.now)))
+    (sym c.in-Ack.is) c.acknowledge.ensures.taken
 
 pub returns-in-Ack-clause-follows : goal.returns-in-Ack-clause-follows
 returns-in-Ack-clause-follows c =
-    subst (λ (x : Form). IfOk c.acknowledge.result (λ (said : Option Accepted). (w : ℕ) → FollowsForm c.args.profile.now bus.B w (Some x) c.args.self.now c.acknowledge.new.self said)) (sym c.in-Ack.is) c.acknowledge.ensures.follows
+    subst (λ (x : Form). IfOk c.acknowledge.result (λ (said : Option Accepted). (w : ℕ)
+    → FollowsForm c.args.profile.now bus.B w (Some x) c.args.self.now c.acknowledge.new.self said))
+    (sym c.in-Ack.is) c.acknowledge.ensures.follows

@@ -10,6 +10,10 @@ returns-clause-follows c =
     let p = c.args.profile.now in
     let s = c.args.self.now in
     elim c.match-form.branch [
-      | in-Eot w ↦ word_taken p c.args.word c.args.form.now (assumed_at_end (option_map latest_number s.last) (number_in s.implied.sink.phase)) s c.match-form.self _ (w.self-is ∙ w.assume_for_end.ensures) c.take_allowed.ensures c.requires.known c.requires.allowed
-      | in_default w ↦ word_taken p c.args.word c.args.form.now s.implied.sink.last s c.match-form.self _ w.self-is c.take_allowed.ensures c.requires.known c.requires.allowed
+      | in-Eot w ↦
+          word_taken p c.args.word c.args.form.now (assumed_at_end (option_map latest_number s.last) (number_in s.implied.sink.phase)) s
+          c.match-form.self _ (w.self-is ∙ w.assume_for_end.ensures) c.take_allowed.ensures c.requires.known c.requires.allowed
+      | in_default w ↦
+          word_taken p c.args.word c.args.form.now s.implied.sink.last s c.match-form.self _ w.self-is c.take_allowed.ensures
+          c.requires.known c.requires.allowed
     ]

@@ -5,4 +5,6 @@ use Rattle.a429_sink.proofs.LoneFacts.{counted_stays}
 use Rattle.a429_sink.proofs.lone.LoneSink.rests.Goals as goal
 
 pub returns : goal.returns
-returns c = subst (λ (k : Sink). without_files (capped k) ≡ k) c.self.view_is (counted_stays c.self.inside.implied c.self.invariant.1 c.self.invariant.2)
+returns c =
+    subst (λ (k : Sink). without_files (capped k) ≡ k) c.self.view_is
+    (counted_stays c.self.inside.implied c.self.invariant.1 c.self.invariant.2)

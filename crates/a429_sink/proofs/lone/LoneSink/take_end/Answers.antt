@@ -17,5 +17,7 @@ invariant_of-self c =
 pub returns-then-has_grant : goal.returns-then-has_grant
 returns-then-has_grant c =
     let grant = subst (λ (k : Sink). HasGrant k.phase) (sym c.self.view_is) (c.has_grant.ensures.0 c.if-has_grant.true) in
-    subst (λ (k : Sink). c.take_allowed.new.sink.sink ≡ keeps_form c.args.profile.now bus.A 0 (Some (form.Eot c.args.flags c.args.check)) k) c.self.view_is
-    (ap (λ (q : Implied). q.sink) c.take_allowed.ensures ∙ end_is_kept c.args.profile.now c.self.inside.implied c.args.flags c.args.check grant)
+    subst (λ (k : Sink). c.take_allowed.new.sink.sink ≡ keeps_form c.args.profile.now bus.A 0 (Some (form.Eot c.args.flags c.args.check)) k)
+    c.self.view_is
+    (ap (λ (q : Implied). q.sink) c.take_allowed.ensures
+    ∙ end_is_kept c.args.profile.now c.self.inside.implied c.args.flags c.args.check grant)

@@ -17,4 +17,5 @@ returns-in-Ok-end_piece-clause-ok g c = λ first es splits.
           rw (w.splitting-is, w.pieces-is) (h.is, no_end w.begin_anew.new.self.piece h.goes)
       | in_default w ↦ rw (w.splitting-is, w.pieces-is) (is, sym c.end_at_last.ensures ∙ w.in_default.is)
     ] in
-    has_all p first (g.P.Pieces.known c.match-end_at_last.pieces) (g.P.Pieces.known c.end_piece.new.pieces) es s c.end_piece.new.self both.0 both.1 (rw c.mark-all.ensures at c.in-Ok-end_piece.ensures.ok) c.into_told.result.items c.into_told.ensures
+    has_all p first (g.P.Pieces.known c.match-end_at_last.pieces) (g.P.Pieces.known c.end_piece.new.pieces) es s c.end_piece.new.self both.0
+    both.1 (rw c.mark-all.ensures at c.in-Ok-end_piece.ensures.ok) c.into_told.result.items c.into_told.ensures

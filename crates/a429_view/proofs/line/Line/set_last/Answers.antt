@@ -7,6 +7,7 @@ returns c =
     let old = c.args.self.now in
     let len = c.self.inside.len in
     let bytes = c.self.inside.bytes in
-    let count : len - 1 ≡ length old - 1 = omega (arith, ap length c.self.view_is, c.self.told, length-take-le len bytes (omega (arith, c.self.told))) in
+    let count : len - 1 ≡ length old - 1 =
+    omega (arith, ap length c.self.view_is, c.self.told, length-take-le len bytes (omega (arith, c.self.told))) in
     let front = sym (take-take (len - 1) len bytes (omega arith)) ∙ ap (take (len - 1)) c.self.view_is ∙ ap (λ k. take k old) count in
     c.put.ensures.added ∙ ap (λ t. t ++ c.args.byte ∷ []) front

@@ -12,9 +12,11 @@ use Rattle.a429_view.proofs.survey.text.put_kinds.Goals as goal
 pub loop-i-preserved : goal.loop-i-preserved
 loop-i-preserved g c =
     let kind = get_or kinds c.loop-i.i Rts in
-    rw (flat_map-more (counted_kind c.args.bus c.args.count.now.kinds) kinds c.loop-i.i kind c.loop-i-test.true (read_of kinds c.loop-i.i Rts kind c.loop-i-test.true))
+    rw (flat_map-more (counted_kind c.args.bus c.args.count.now.kinds) kinds c.loop-i.i kind c.loop-i-test.true
+    (read_of kinds c.loop-i.i Rts kind c.loop-i-test.true))
     (c.loop-i.invariant ▹ (rw c.hits.ensures at c.put_kind.ensures))
 
 pub returns : goal.returns
 returns g c =
-    subst (λ ks. Says g.W.Write.contents c.args.sheet.now c.loop-i.sheet (flat_map (counted_kind c.args.bus c.args.count.now.kinds) ks)) (take_all c.loop-i.i kinds c.loop-i-test.false) c.loop-i.invariant
+    subst (λ ks. Says g.W.Write.contents c.args.sheet.now c.loop-i.sheet (flat_map (counted_kind c.args.bus c.args.count.now.kinds) ks))
+    (take_all c.loop-i.i kinds c.loop-i-test.false) c.loop-i.invariant

@@ -10,9 +10,11 @@ loop-label-init g c = rw (counted_none c.args.bus c.args.count.now.labels) (says
 
 pub loop-label-preserved : goal.loop-label-preserved
 loop-label-preserved g c =
-    rw (counted_more c.args.bus c.loop-label.label c.args.count.now.labels) (c.loop-label.invariant ▹ (rw c.label.ensures at c.put_label.ensures))
+    rw (counted_more c.args.bus c.loop-label.label c.args.count.now.labels)
+    (c.loop-label.invariant ▹ (rw c.label.ensures at c.put_label.ensures))
 
 pub returns : goal.returns
 returns g c =
     let all : c.loop-label.label ≡ 256 = omega (arith, c.loop-label-test.false, c.loop-label.auto.label-end) in
-    subst (λ n. Says g.W.Write.contents c.args.sheet.now c.loop-label.sheet (counted_labels c.args.bus n c.args.count.now.labels)) all c.loop-label.invariant
+    subst (λ n. Says g.W.Write.contents c.args.sheet.now c.loop-label.sheet (counted_labels c.args.bus n c.args.count.now.labels)) all
+    c.loop-label.invariant

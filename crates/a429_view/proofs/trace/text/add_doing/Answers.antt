@@ -13,7 +13,8 @@ returns-in-Granted c = rw c.in-Granted.is (within 71 c.add_named-in-Granted.ensu
 pub returns-in-InBlock : goal.returns-in-InBlock
 returns-in-InBlock c =
     let b = c.in-InBlock in
-    rw b.is (subst (Adds c.args.line.now c.add_to.new.line 71) (block_text b.file b.ldu b.taken b.asked) (within 71 c.add_to.ensures (omega arith)))
+    rw b.is
+    (subst (Adds c.args.line.now c.add_to.new.line 71) (block_text b.file b.ldu b.taken b.asked) (within 71 c.add_to.ensures (omega arith)))
 
 pub returns-in-OwesAck : goal.returns-in-OwesAck
 returns-in-OwesAck c = rw c.in-OwesAck.is (within 71 c.add_unit.ensures (omega arith))

@@ -8,5 +8,7 @@ use Rattle.a429_view.proofs.trace.text.add_entry.Goals as goal
 pub returns : goal.returns
 returns c =
     let e = c.args.entry.now in
-    let bytes = entry_bytes e.word e.bus c.as_bytes.result.now c.hex-hex.result (decimal e.time) (c.as_bytes.ensures.value ∙ c.letter.ensures) c.hex-hex.ensures in
+    let bytes =
+    entry_bytes e.word e.bus c.as_bytes.result.now c.hex-hex.result (decimal e.time)
+    (c.as_bytes.ensures.value ∙ c.letter.ensures) c.hex-hex.ensures in
     subst (Adds c.args.line.now c.put.new.self 32) bytes (c.put_number.ensures ▹ c.put.ensures)

@@ -5,4 +5,5 @@ use Rattle.a429_view.proofs.units.counts.form_of.Goals as goal
 
 pub returns : goal.returns
 returns c =
-    c.form-2.ensures ∙ ap form_in c.form.ensures.computed ∙ form_of-sight c.args.profile.now.codes c.args.entry.now.bus c.args.entry.now.word
+    c.form-2.ensures ∙ ap form_in c.form.ensures.computed
+    ∙ form_of-sight c.args.profile.now.codes c.args.entry.now.bus c.args.entry.now.word

@@ -10,5 +10,11 @@ returns-clause-value c =
     let number = c.from.ensures ∙ to_z-of_z w64 c.args.number (sfits_lit (yes_ltb c.ranges.number.sfits)) in
     let power = c.from-2.ensures ∙ ap pos c.power_of_five.ensures in
     let fits = fives_fit c.args.number c.args.halvings c.ranges.number.sfits (omega arith) in
-    rw (to_z-of_z w128 c.from.result (sfits_lit (yes_ltb c.from.type_inv)), to_z-of_z w128 c.from-2.result (sfits_lit (yes_ltb c.from-2.type_inv)), number, power, to_z-of_z w128 _ fits)
+    rw (
+      to_z-of_z w128 c.from.result (sfits_lit (yes_ltb c.from.type_inv)),
+      to_z-of_z w128 c.from-2.result (sfits_lit (yes_ltb c.from-2.type_inv)),
+      number,
+      power,
+      to_z-of_z w128 _ fits,
+    )
     (halves-are c.args.number c.args.halvings c.args.decimals)

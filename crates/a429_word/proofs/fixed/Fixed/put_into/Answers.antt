@@ -14,4 +14,5 @@ returns c =
     put_together z _ c.args.self.now.decimals c.shortest-number.result.0 c.shortest-number.result.1 c.push_decimals-whole.result
     c.args.text.now c.push_decimals-whole.new.self c.push_point.new.self c.push_whole.new.self c.push_sign.new.self
     (omega arith) (sign_test z fits) size c.shortest-number.ensures.fewer c.shortest-number.ensures.ends
-    c.requires.empty c.push_decimals-whole.ensures.text c.push_decimals-whole.ensures.rest c.push_point.ensures c.push_whole.ensures.text c.push_sign.ensures
+    c.requires.empty c.push_decimals-whole.ensures.text c.push_decimals-whole.ensures.rest c.push_point.ensures c.push_whole.ensures.text
+    c.push_sign.ensures

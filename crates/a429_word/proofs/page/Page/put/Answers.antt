@@ -16,6 +16,9 @@ returns-in-Some-clause-ok g c =
     let filled : at ≤ length (room_of c.self.inside.room) = c.self.invariant in
     let inside : at ≤ length all = omega (arith, ap length whole, filled) in
     let before = ap (take at) whole ∙ c.self.view_is in
-    let room : at + n ≤ c.in-Some.room.len = omega (arith, c.if-bytes-len.true, c.len.ensures, c.in-Some.room.ok.0, ap length c.deref_mut.ensures.value, inside) in
-    let text = take-refilled at n c.in-Some.room.len all c.copy_from_slice.new.self (post_of at (at + n - at) all) _ room inside (ap length copied) ∙ ap (λ t. take at all ++ t) copied ∙ ap (λ t. t ++ c.args.bytes.now) before in
+    let room : at + n ≤ c.in-Some.room.len =
+    omega (arith, c.if-bytes-len.true, c.len.ensures, c.in-Some.room.ok.0, ap length c.deref_mut.ensures.value, inside) in
+    let text =
+    take-refilled at n c.in-Some.room.len all c.copy_from_slice.new.self (post_of at (at + n - at) all) _ room inside (ap length copied)
+    ∙ ap (λ t. take at all ++ t) copied ∙ ap (λ t. t ++ c.args.bytes.now) before in
     append_known-grown (paged g.W.Write.contents c.args.out.now c.args.self.now) _ _ _ _ (Keeps-refl _) text

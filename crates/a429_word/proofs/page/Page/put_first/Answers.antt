@@ -16,7 +16,10 @@ returns-in-Some-clause-ok g c =
     let filled : at ≤ length (room_of c.self.inside.room) = c.self.invariant in
     let inside : at ≤ length all = omega (arith, ap length whole, filled) in
     let before = ap (take at) whole ∙ c.self.view_is in
-    let room : at + 32 ≤ c.in-Some.room.len = omega (arith, c.if-len-self-ge-FEW.true, c.len.ensures, c.in-Some.room.ok.0, ap length c.deref_mut.ensures.value, inside) in
-    let text = take-begun at count 32 c.in-Some.room.len all c.copy_from_slice.new.self (post_of at (at + 32 - at) all) _ c.requires.count room inside (ap length copied ∙ c.requires.bytes)
+    let room : at + 32 ≤ c.in-Some.room.len =
+    omega (arith, c.if-len-self-ge-FEW.true, c.len.ensures, c.in-Some.room.ok.0, ap length c.deref_mut.ensures.value, inside) in
+    let text =
+    take-begun at count 32 c.in-Some.room.len all c.copy_from_slice.new.self (post_of at (at + 32 - at) all) _ c.requires.count room inside
+    (ap length copied ∙ c.requires.bytes)
     ∙ ap (λ t. take at all ++ take count t) copied ∙ ap (λ t. t ++ take count c.args.bytes.now) before in
     append_known-grown (paged g.W.Write.contents c.args.out.now c.args.self.now) _ _ _ _ (Keeps-refl _) text

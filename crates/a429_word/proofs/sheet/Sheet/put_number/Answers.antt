@@ -8,7 +8,9 @@ pub returns : goal.returns
 returns g c = said (record {
   same_out = refl;
   same_page = refl;
-  all = λ works. at_ok_where_it_works c.put_number.result (has_failed c.put_number.new.out) c.put_number.ensures.ok c.put_number.ensures.device works;
+  all =
+      λ works.
+      at_ok_where_it_works c.put_number.result (has_failed c.put_number.new.out) c.put_number.ensures.ok c.put_number.ensures.device works;
   prefix = c.put_number.ensures.prefix;
   stays = c.put_number.ensures.stays;
 })

@@ -11,7 +11,8 @@ loop-at-preserved g c =
       length-put_mid_within c.loop-at.at _ c.in-Ok.n c.loop-at.buf c.pull.new.buf inside few,
       search rules,
       omega (arith, c.in-Ok.ensures.left, c.loop-at.invariant.2),
-      rw (take-put_mid_within c.loop-at.at _ c.in-Ok.n c.loop-at.buf c.pull.new.buf inside few) (Consumes-trans _ _ _ _ _ c.loop-at.invariant.3 c.in-Ok.ensures.bytes.0),
+      rw (take-put_mid_within c.loop-at.at _ c.in-Ok.n c.loop-at.buf c.pull.new.buf inside few)
+          (Consumes-trans _ _ _ _ _ c.loop-at.invariant.3 c.in-Ok.ensures.bytes.0),
     )
 
 pub returns-in-Ok-eq0-clause-bytes : goal.returns-in-Ok-eq0-clause-bytes

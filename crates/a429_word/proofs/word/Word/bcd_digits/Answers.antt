@@ -7,4 +7,5 @@ loop-before-init c = read-none c.args.self
 
 pub loop-before-preserved : goal.loop-before-preserved
 loop-before-preserved c =
-    read-more c.args.self c.loop-before.before c.loop-before.value c.bcd_digit-digit.result c.loop-before.invariant c.bcd_digit-digit.ensures (omega arith)
+    read-more c.args.self c.loop-before.before c.loop-before.value c.bcd_digit-digit.result c.loop-before.invariant
+    c.bcd_digit-digit.ensures (omega arith)

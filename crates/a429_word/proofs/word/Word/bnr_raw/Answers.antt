@@ -23,4 +23,5 @@ returns-else-bit c =
     let w = c.args.self in let s = c.args.s in
     let b = bounds w s c.requires.least c.requires.most in
     let low = data-is c.to_u32.result w s _ c.requires.least c.requires.most c.to_u32.ensures c.cast_signed-data.ensures in
-    positive (number_at w (29 - s) s) (2 ^ s) (bit w 29) c.cast_signed-data.result b.0 b.1 (bit-clear w 29 (λ h. cc (c.bit.ensures.1 h))) low
+    positive (number_at w (29 - s) s) (2 ^ s) (bit w 29) c.cast_signed-data.result b.0 b.1
+    (bit-clear w 29 (λ h. cc (c.bit.ensures.1 h))) low

@@ -9,7 +9,8 @@ returns-clause-some c =
     let low : c.number_of_four-lower.result < 65536 = omega arith in
     let upper = c.number_of_four-upper.ensures.value high in
     let lower = c.number_of_four-lower.ensures.value low in
-    eight_hex c.args.letters c.args.text.now c.from_u32.result long (c.number_of_four-upper.ensures.digits.0 high) (c.number_of_four-lower.ensures.digits.0 low) (omega (arith, upper, lower))
+    eight_hex c.args.letters c.args.text.now c.from_u32.result long (c.number_of_four-upper.ensures.digits.0 high)
+    (c.number_of_four-lower.ensures.digits.0 low) (omega (arith, upper, lower))
 
 pub returns-then-upper-ge-NONE-clause-none : goal.returns-then-upper-ge-NONE-clause-none
 returns-then-upper-ge-NONE-clause-none c h =

@@ -15,11 +15,23 @@ returns-in-Ok-clause-all g c = λ works.
 
 pub returns-in-Err-clause-first : goal.returns-in-Err-clause-first
 returns-in-Err-clause-first g c =
-    let until = c.in-Err.ensures.until in
-    (_, record { entries = until.entries; first = begins c.args.rec.now.to_come until.entries c.in-Err.fault until.stops; text_is = inr refl }, until.says)
+    let until = c.in-Err.ensures.until in (
+      _,
+      record {
+        entries = until.entries;
+        first = begins c.args.rec.now.to_come until.entries c.in-Err.fault until.stops;
+        text_is = inr refl;
+      },
+      until.says,
+    )
 
 pub returns-in-Err-clause-all : goal.returns-in-Err-clause-all
 returns-in-Err-clause-all g c = λ works.
     let until = c.in-Err.ensures.until in
-    let t = taken c.args.rec.now c.put_kept.new.rec in
-    (_, rw c.fault_of.ensures (before_fault c.args.profile.now t c.in-Err.fault _ (record { entries = until.entries; came = until.came; stops = until.stops; text_is = refl })), until.says)
+    let t = taken c.args.rec.now c.put_kept.new.rec in (
+      _,
+      rw c.fault_of.ensures
+          (before_fault c.args.profile.now t c.in-Err.fault _
+          (record { entries = until.entries; came = until.came; stops = until.stops; text_is = refl })),
+      until.says,
+    )

@@ -26,4 +26,5 @@ pub returns-clause-rest : goal.returns-clause-rest
 returns-clause-rest c =
     let l = c.loop-left in
     let all : (c.args.count - l.left) + l.left ≡ c.args.count = omega (arith, l.invariant.few) in
-    c.push_digits.ensures.rest ∙ ap (λ n. n / 10 ^ l.left) l.invariant.rest ∙ quotient-more c.args.number (c.args.count - l.left) l.left ∙ ap (λ k. c.args.number / 10 ^ k) all
+    c.push_digits.ensures.rest ∙ ap (λ n. n / 10 ^ l.left) l.invariant.rest ∙ quotient-more c.args.number (c.args.count - l.left) l.left
+    ∙ ap (λ k. c.args.number / 10 ^ k) all
