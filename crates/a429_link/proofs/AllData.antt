@@ -33,7 +33,7 @@ data-append c (x ∷ xs) ys = by (form_of c bus.A x) (data-append c xs ys)
     by _ e = e
 
 -- of some of the words, in order, the data words are some of theirs
-sub_data : (c : Codes) (xs ys : List ℕ) → IsSubsequenceOf xs ys → IsSubsequenceOf (data_words c xs) (data_words c ys)
+pub sub_data : (c : Codes) (xs ys : List ℕ) → IsSubsequenceOf xs ys → IsSubsequenceOf (data_words c xs) (data_words c ys)
 sub_data c xs [] h = ap (data_words c) h
 sub_data c xs (y ∷ ys) (inl h) = by (form_of c bus.A y) (sub_data c xs ys h)
   where
@@ -68,7 +68,7 @@ data_parts p (w ∷ ws) h =
     first_part w (form_of p.codes bus.A w) (data_words p.codes ws) h.0 ∙ ap (λ (l : List ℕ). w ∷ l) (data_parts p ws h.1)
 
 -- those of a block are those of its link data unit
-data_block : (p : Contents) → IsRead p → (u : LduValue) (n : UnitNumber) → IsLdu p u → n.file ≤ 255 → n.ldu ≤ 255
+pub data_block : (p : Contents) → IsRead p → (u : LduValue) (n : UnitNumber) → IsLdu p u → n.file ≤ 255 → n.ldu ≤ 255
     → data_words p.codes (block_of p.codes u n.file n.ldu) ≡ u.words
 data_block p good u n is file ldu =
     let f = good.fit u is in

@@ -6,7 +6,7 @@ use Rattle.a429_profile.specs.Profile.{Contents, IsProfile}
 use Rattle.a429_profile.specs.declared.codes.Codes.{Codes}
 use Rattle.a429_ldu.specs.declared.forms.Form.{Form}
 use Rattle.a429_ldu.specs.declared.forms.Form.TheVariants as form
-use Rattle.a429_ldu.specs.Form.{form_of, word_number}
+use Rattle.a429_ldu.specs.Form.{form_of}
 use Rattle.a429_ldu.specs.Ldu.{LduValue, IsLdu, block_of}
 use Rattle.a429_link.specs.declared.number.UnitNumber.{UnitNumber}
 use Rattle.a429_link.specs.declared.seen.Seen.{Seen}
@@ -15,10 +15,10 @@ use Rattle.a429_link.specs.Attempt.{asks, attempts, attempts_from, fresh, goes_o
 use Rattle.a429_link.specs.Attempt as link
 use Rattle.a429_link.specs.Run.{IsSubsequenceOf}
 use Rattle.a429_link.specs.WholeBlock.{data_first, data_words}
-use Rattle.a429_link.proofs.AllData.{data-append}
+use Rattle.a429_link.proofs.AllData.{data-append, data_block, sub_data}
 use Rattle.a429_link.proofs.BlockWords.{InBlock, IsIn, in_block, in_whole, is_end, is_part, is_start}
 use Rattle.a429_link.proofs.Contradictions.{latest_push, next_item}
-use Rattle.a429_link.proofs.Message.{AllParts, Eot, IsRead, Part, Sot, end_message, message_in, message_of}
+use Rattle.a429_link.proofs.Message.{Eot, IsRead, Part, Sot, end_message, message_in, message_of}
 use Rattle.a429_link.proofs.MessageRead.{is_read}
 use Rattle.a429_explain.specs.declared.decoded.DecodedWord.{DecodedWord}
 use Rattle.a429_explain.specs.Decoded.{IsHeardAt}
@@ -83,59 +83,6 @@ took c a old new bus.B w (Some (form.Part s)) is t h = unmoved c a old new h t.c
 took c a old new bus.B w (Some (form.Eot f k)) is t h = unmoved c a old new h t.count t.start t.words t.end t.acked
 took c a old new bus.B w (Some (form.Nak n)) is t h = unmoved c a old new h t.count t.start t.words t.end t.acked
 took c a old new bus.B w None is t h = unmoved c a old new h t.count t.start t.words t.end t.acked
-
--- ---- COPY
--- of some of the words, in order, the data words are some of theirs
-sub_data : (c : Codes) (xs ys : List ℕ) → IsSubsequenceOf xs ys → IsSubsequenceOf (data_words c xs) (data_words c ys)
-sub_data c xs [] h = ap (data_words c) h
-sub_data c xs (y ∷ ys) (inl h) = by (form_of c bus.A y) (sub_data c xs ys h)
-  where
-    by : (o : Option Form)
-        → IsSubsequenceOf (data_words c xs) (data_words c ys) → IsSubsequenceOf (data_words c xs) (data_first y o (data_words c ys))
-    by (Some (form.Part s)) h = inl h
-    by _ h = h
-sub_data c xs (y ∷ ys) (inr (zs, e, h)) =
-    subst (λ (l : List ℕ). IsSubsequenceOf (data_words c l) (data_words c (y ∷ ys))) (sym e) (by (form_of c bus.A y) (sub_data c zs ys h))
-  where
-    by : (o : Option Form) → IsSubsequenceOf (data_words c zs) (data_words c ys)
-        → IsSubsequenceOf (data_first y o (data_words c zs)) (data_first y o (data_words c ys))
-    by (Some (form.Part s)) h = inr (data_words c zs, refl, h)
-    by _ h = h
-
--- a data word, a start word, an end word
-first_part : (w : ℕ) (o : Option Form) (rest : List ℕ) → message_in w o ≡ Some (Part w) → data_first w o rest ≡ w ∷ rest
-first_part w (Some (form.Part s)) rest e = refl
-first_part w _ rest e = absurd (cc e)
-
-first_start : (w g f l : ℕ) (o : Option Form) (rest : List ℕ) → message_in w o ≡ Some (Sot g f l) → data_first w o rest ≡ rest
-first_start w g f l (Some (form.Sot a b c)) rest e = refl
-first_start w g f l _ rest e = absurd (cc e)
-
-first_end : (w f c : ℕ) (o : Option Form) (rest : List ℕ) → message_in w o ≡ Some (Eot f c) → data_first w o rest ≡ rest
-first_end w f c (Some (form.Eot a b)) rest e = refl
-first_end w f c _ rest e = absurd (cc e)
-
-data_parts : (p : Contents) (ws : List ℕ) → AllParts p ws → data_words p.codes ws ≡ ws
-data_parts p [] h = refl
-data_parts p (w ∷ ws) h =
-    first_part w (form_of p.codes bus.A w) (data_words p.codes ws) h.0 ∙ ap (λ (l : List ℕ). w ∷ l) (data_parts p ws h.1)
-
--- those of a block are those of its link data unit
-data_block : (p : Contents) → IsRead p → (u : LduValue) (n : UnitNumber) → IsLdu p u → n.file ≤ 255 → n.ldu ≤ 255
-    → data_words p.codes (block_of p.codes u n.file n.ldu) ≡ u.words
-data_block p good u n is file ldu =
-    let f = good.fit u is in
-    let s = word_number p.codes (form.Sot u.gfi n.file n.ldu) in
-    let e = word_number p.codes (form.Eot u.flags u.check) in
-    first_start s u.gfi n.file n.ldu (form_of p.codes bus.A s) (data_words p.codes (u.words ++ e ∷ []))
-    (good.reads bus.A (Sot u.gfi n.file n.ldu) (f.gfi, file, ldu))
-    ∙ data-append p.codes u.words (e ∷ [])
-    ∙ ap (λ (l : List ℕ). data_words p.codes u.words ++ l)
-    (first_end e u.flags u.check (form_of p.codes bus.A e) [] (good.reads bus.A (end_message u) (f.flags, f.check)))
-    ∙ append-nil (data_words p.codes u.words)
-    ∙ data_parts p u.words f.parts
-
--- ---- ENDCOPY
 
 -- ---- what its words say of the link data unit
 
