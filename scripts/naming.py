@@ -76,7 +76,7 @@ def read(path, crates):
         return source
     in_module, current, own = False, None, {}
     for number, line in enumerate(lines, 1):
-        if line.startswith("module "):
+        if line.lstrip().startswith("module "):
             in_module, current = True, None
             continue
         if line and not line.startswith(" "):

@@ -23,3 +23,6 @@ pub mod RecordedFacts
 pub mod GroupFacts
 pub mod FrontierFacts
 pub mod SearchingFacts
+pub mod ShapeFacts
+pub mod SoundFacts
+pub mod HeardFacts

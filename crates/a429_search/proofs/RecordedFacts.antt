@@ -18,7 +18,7 @@ use Rattle.a429_link.specs.WholeBlock.{data_first, data_words}
 use Rattle.a429_link.proofs.AllData.{data-append, data_block, sub_data}
 use Rattle.a429_link.proofs.BlockWords.{InBlock, IsIn, in_block, in_whole, is_end, is_part, is_start}
 use Rattle.a429_link.proofs.Contradictions.{latest_push, next_item}
-use Rattle.a429_link.proofs.Message.{Eot, IsRead, Part, Sot, end_message, message_in, message_of}
+use Rattle.a429_link.proofs.Message.{Eot, IsRead, Sot, end_message, message_in, message_of}
 use Rattle.a429_link.proofs.MessageRead.{is_read}
 use Rattle.a429_explain.specs.declared.decoded.DecodedWord.{DecodedWord}
 use Rattle.a429_explain.specs.Decoded.{IsHeardAt}
@@ -29,12 +29,12 @@ use Rattle.a429_search.specs.Recorded.{IsAttemptFrom, IsRecorded, IsTaken, MayBe
 
 -- ---- one more word of the block
 
-start_push : (c : Codes) (s : Option StartWord) (words : List ℕ) (w : ℕ)
+pub start_push : (c : Codes) (s : Option StartWord) (words : List ℕ) (w : ℕ)
     → start_from c s (words ++ w ∷ []) ≡ start_by (form_of c bus.A w) (start_from c s words)
 start_push c s [] w = refl
 start_push c s (v ∷ words) w = start_push c (start_by (form_of c bus.A v) s) words w
 
-end_push : (c : Codes) (e : Option EndWord) (words : List ℕ) (w : ℕ)
+pub end_push : (c : Codes) (e : Option EndWord) (words : List ℕ) (w : ℕ)
     → end_from c e (words ++ w ∷ []) ≡ end_by (form_of c bus.A w) (end_from c e words)
 end_push c e [] w = refl
 end_push c e (v ∷ words) w = end_push c (end_by (form_of c bus.A v) e) words w

@@ -9,6 +9,7 @@ use Rattle.a429_link.specs.declared.number.UnitNumber.{UnitNumber}
 use Rattle.a429_link.specs.declared.seen.Seen.{Seen}
 use Rattle.a429_link.specs.Assignment.{Assigned, IsAssignable, IsNext, IsSound}
 use Rattle.a429_link.specs.Attempt.{attempts, fresh, latest}
+use Rattle.a429_link.specs.Attempt as link
 use Rattle.a429_link.specs.Run.{BeginsARun}
 use Rattle.a429_link.proofs.AssignedRun.{some_attempts}
 use Rattle.a429_link.specs.Number.{next_number, number_after}
@@ -19,10 +20,10 @@ use Rattle.a429_search.specs.declared.groups.Group.{Group}
 use Rattle.a429_search.specs.declared.searching.Hypothesis.{Hypothesis}
 use Rattle.a429_search.specs.declared.standing.Standing.{Standing}
 use Rattle.a429_search.specs.declared.standing.Ways.{Ways}
-use Rattle.a429_search.specs.Frontier.{AreAt, AreCovered, AreKept, CarriesOn, Covers, FitsGroup, FitsNone, GoOnFrom, HasFewest, IsAmong, IsRefused}
+use Rattle.a429_search.specs.Frontier.{AreAt, AreCovered, AreKept, CarriesOn, Covers, FitsGroup, FitsNone, GoOnFrom, HasFewest, IsAmong, IsRefused, IsStart}
 use Rattle.a429_search.specs.Contradiction.{HasNoRun}
 use Rattle.a429_search.specs.Recorded.{IsAttemptFrom, MayBeOf, MayBeTo, number_of}
-use Rattle.a429_search.specs.Standing.{Begins, IsAt, IsHeard, IsNamed, LeaveNothingOut, Stands, StandsLater, all_give_ups}
+use Rattle.a429_search.specs.Standing.{Begins, IsAt, IsHeard, IsNamed, LeaveNothingOut, MayStand, Stands, StandsLater, all_give_ups}
 use Rattle.a429_search.proofs.FrontierFacts.{CoverNext, comes_next, cover_more, in_range, not_assignable}
 use Rattle.a429_search.proofs.RecordedFacts.{may_be_to, there}
 use Rattle.a429_search.proofs.RivalFacts.{get_push}
@@ -260,6 +261,23 @@ moved_one p t xs ys h g stands group c = by xs c.place c.is
     by (z ∷ zs) (suc k) is = later z ((zs ++ g ∷ []) ++ ys) (by zs k is)
 
 -- ---- along the attempts
+
+-- before all of them
+pub start_covers : (p : Contents) (a : link.Attempt) (hyps : List Hypothesis) → IsStart hyps → CoverNext p (a ∷ []) hyps
+start_covers p a hyps (h, is, known, gave, since, started, group) now ok t (none, was) next = record {
+  place = 0;
+  hypothesis = h;
+  is = ap (λ (l : List Hypothesis). slice_get l 0) is;
+  covers = inr (stands, subst (λ (o : Option Group). FitsGroup p o t.unit) (sym group) tt);
+}
+  where
+    ldu : t.number.ldu ≡ p.codes.first_ldu
+    ldu = subst (λ (o : Option Assigned). IsNext p.codes o ok t) none next
+
+    stands : Stands p.codes.first_ldu h.standing t.number t.give_ups
+    stands =
+        subst (λ (o : Option UnitNumber). MayStand p.codes.first_ldu o h.standing.is_started h.standing t.number t.give_ups) (sym known)
+        (ldu, omega (arith, gave, since))
 
 -- of an attempt that is known by its first and its last word
 attempt_in : (p : Contents) (items : List Seen) (from to : ℕ) (o : Option Attempt) (a : Attempt)

@@ -1,5 +1,5 @@
 -- Which verdict `decide` gives (profile).
-use Rattle.std.specs.Prelude.{◌≡◌, ◌+◌, ◌≤◌, ◌<◌, ◌⊎◌, ℕ, IfSome, List, length, slice_get, take}
+use Rattle.std.specs.Prelude.{◌≡◌, ◌+◌, ◌≤◌, ◌<◌, ◌⊎◌, ℕ, IfSome, List, length, slice_get}
 use Rattle.a429_profile.specs.Profile.{Contents}
 use Rattle.a429_link.specs.declared.seen.Seen.{Seen}
 use Rattle.a429_link.specs.Observer.{IsRefused}
@@ -16,6 +16,7 @@ use Rattle.a429_explain.specs.Guess.{IsGuess}
 use Rattle.a429_search.specs.declared.contradiction.Contradiction.{Contradiction}
 use Rattle.a429_search.specs.declared.deciding.Judged.{Judged}
 use Rattle.a429_search.specs.declared.deciding.Judged.TheVariants as judged
+use Rattle.a429_search.specs.Frontier.{IsSureUnless}
 use Rattle.a429_search.specs.Contradiction.{ContradictsAt, HasNoContradiction, HasNoneBefore, HasNoRun, IsFirstContradiction}
 
 -- the words before item i do not allow it, and the reason fits it; or it contradicts them, by this reason
@@ -46,7 +47,7 @@ pub record IsNoRun (p : Contents) (items : List Seen) (c : Contradiction) : Type
 -- what is found of items that are allowed
 abbrev pub IsJudged : Contents → List Seen → Judged → Type 0
 IsJudged p items (judged.NoRun c) = IsNoRun p items c
-IsJudged p items (judged.Guessed guess) = IsGuess p items guess × HasNoContradiction p items (length items)
+IsJudged p items (judged.Guessed guess unsure_at) = IsGuess p items guess × HasNoContradiction p items (length items) × IsSureUnless p items unsure_at
 IsJudged p items (judged.CutShort at) = IfSome at (λ i. i < length items) × HasNoContradiction p items (length items)
 
 -- the verdict says that no run's trace begins with the words up to item i, or with fewer
@@ -66,10 +67,9 @@ IsOfCheck p items (Explained certificate files) = IsFirst p items (Explained cer
 IsOfCheck p items (Impossible i reason) = Unit {0}
 IsOfCheck p items (Unexplained i doubt) = HasDoubt p items
 
--- why it is neither: the search was cut short; or the steps that it guessed cannot be made at this entry, and some run's trace begins with
--- the words before it
+-- why it is neither: the search was cut short; or the steps that it guessed cannot be made, and some run's trace begins with these words
 abbrev pub IsLeftOpen : Contents → List Seen → Verdict → Type 0
 IsLeftOpen p items (Unexplained i OutOfSteps) = Unit {0}
-IsLeftOpen p items (Unexplained i NotReplayed) = BeginsARun p (take i items)
+IsLeftOpen p items (Unexplained i NotReplayed) = BeginsARun p items
 IsLeftOpen p items (Unexplained i doubt) = ⊥
 IsLeftOpen p items _ = Unit {0}

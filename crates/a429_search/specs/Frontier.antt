@@ -1,10 +1,11 @@
 -- What a source may have done up to an attempt, as hypotheses that are carried from one attempt to the next (profile).
-use Rattle.std.specs.Prelude.{◌≡◌, ◌<◌, ◌≤◌, ◌⊎◌, ℕ, Bool, true, List, Option, Some, None, IfSome, is_some, length, slice_get}
+use Rattle.std.specs.Prelude.{◌≡◌, ◌<◌, ◌≤◌, ◌⊎◌, ℕ, Bool, true, false, List, [], ◌∷◌, Option, Some, None, IfSome, is_some, length, slice_get}
 use Rattle.a429_profile.specs.Profile.{Contents}
 use Rattle.a429_ldu.specs.Ldu.{LduValue}
-use Rattle.a429_link.specs.Assignment.{Assigned, IsNext, IsSound}
+use Rattle.a429_link.specs.Assignment.{Assigned, GivesUp, IsNext, IsSound, LeavesFor}
 use Rattle.a429_link.specs.declared.number.UnitNumber.{UnitNumber}
 use Rattle.a429_link.specs.declared.seen.Seen.{Seen}
+use Rattle.a429_link.specs.Run.{BeginsARun}
 use Rattle.a429_explain.specs.Decoded.{HeardValue}
 use Rattle.a429_explain.specs.Guess.{IsGuess}
 use Rattle.a429_search.specs.declared.attempts.Attempt.{Attempt}
@@ -16,7 +17,7 @@ use Rattle.a429_search.specs.declared.searching.Found.TheVariants as found
 use Rattle.a429_search.specs.Block.{MayBeUnitOf}
 use Rattle.a429_search.specs.Contradiction.{HasNoRun}
 use Rattle.a429_search.specs.Recorded.{IsAttemptFrom, MayBeTo}
-use Rattle.a429_search.specs.Standing.{IsAt, Stands, StandsLater, all_give_ups}
+use Rattle.a429_search.specs.Standing.{CanStand, IsAt, IsRegular, Stands, StandsLater, all_give_ups}
 
 -- the attempts of the group may have been attempts to send this link data unit
 abbrev pub FitsGroup : Contents → Option Group → LduValue → Type 0
@@ -57,7 +58,7 @@ GoOnFrom p whole hyps a next = (t u : Assigned) → (whole ≡ true → AreCover
 
 -- before all attempts: the source is at the first number of some file
 abbrev pub IsStart : List Hypothesis → Type 0
-IsStart hyps = (h : Hypothesis) × (slice_get hyps 0 ≡ Some h) × (h.standing.known ≡ None) × (h.standing.give_ups ≡ 0) × (h.standing.since ≡ 0) × (h.group ≡ None)
+IsStart hyps = (h : Hypothesis) × (hyps ≡ h ∷ []) × (h.standing.known ≡ None) × (h.standing.give_ups ≡ 0) × (h.standing.since ≡ 0) × (h.standing.is_started ≡ false) × (h.group ≡ None)
 
 -- after a start word each hypothesis is at its number
 abbrev pub AreAt : Option UnitNumber → List Hypothesis → Type 0
@@ -71,8 +72,83 @@ HasFewest hyps place = (best : Hypothesis) × (slice_get hyps place ≡ Some bes
 abbrev pub IsRefused : Contents → List Seen → List Hypothesis → ℕ → ℕ → Type 0
 IsRefused p items hyps from to = (a : Attempt) × IsAttemptFrom p items from to a × FitsNone p hyps a
 
--- what a search answers: what is guessed of the run, or an entry with which no run's words begin, or an entry at which it was cut short
+-- ---- that nothing is made up
+
+-- by this standing and the group under way the last attempt can have been to send this; where no group is under way, the next one can be
+abbrev pub CanSend : Contents → Standing → Option Group → Assigned → Type 0
+CanSend p s o t = CanStand p.codes.first_ldu s t.number t.give_ups × FitsGroup p o t.unit
+
+-- so each hypothesis is: its standing is regular, and its group has a link data unit
+pub record IsReal (p : Contents) (s : Standing) (o : Option Group) : Type 0 where
+  pub standing : IsRegular p.codes.first_ldu s (is_some o)
+  pub unit : IfSome o (λ g. MayBeUnitOf p g.pieces g.unit)
+
+abbrev pub AreReal : Contents → List Hypothesis → Type 0
+AreReal p hyps = (k : ℕ) (h : Hypothesis) → slice_get hyps k ≡ Some h → IsReal p h.standing h.group
+
+-- from there the source comes to the next attempt with this: it sends the same again, or gives its file up
+abbrev pub LeadsBy : Contents → Standing → Option Group → Assigned → Type 0
+LeadsBy p s None t = CanStand p.codes.first_ldu s t.number t.give_ups
+LeadsBy p s (Some g) t = CanSend p s (Some g) t ⊎ ((t0 : Assigned) × IsSound p t0 × CanSend p s (Some g) t0 × GivesUp p.codes t0.number t0.give_ups t.number t.give_ups)
+
+-- a hypothesis that is carried on from this one to an attempt makes nothing up: what it says may be what the attempt is to send, and this one
+-- leads there
+pub record IsCarriedFrom (p : Contents) (h : Hypothesis) (a : Attempt) (s : Standing) (o : Option Group) : Type 0 where
+  pub real : IsReal p s o
+  pub group : is_some o ≡ true
+  pub comes : (t : Assigned) → IsSound p t → CanSend p s o t → MayBeTo p a t × LeadsBy p h.standing h.group t
+
+-- each of the new hypotheses is an old one, or is carried on from this one
+abbrev pub AddCarried : Contents → Hypothesis → Attempt → List Hypothesis → List Hypothesis → Type 0
+AddCarried p h a old new = (k : ℕ) (x : Hypothesis) → slice_get new k ≡ Some x → (slice_get old k ≡ Some x) ⊎ IsCarriedFrom p h a x.standing x.group
+
+-- it is carried on from one of the hypotheses
+pub record IsCarried (p : Contents) (hyps : List Hypothesis) (a : Attempt) (x : Hypothesis) : Type 0 where
+  pub place : ℕ
+  pub hypothesis : Hypothesis
+  pub is : slice_get hyps place ≡ Some hypothesis
+  pub from : IsCarriedFrom p hypothesis a x.standing x.group
+
+abbrev pub AreCarried : Contents → List Hypothesis → Attempt → List Hypothesis → Type 0
+AreCarried p hyps a next = (k : ℕ) (x : Hypothesis) → slice_get next k ≡ Some x → IsCarried p hyps a x
+
+-- one of the hypotheses, which has a group, says this
+pub record SomeSays (p : Contents) (hyps : List Hypothesis) (t : Assigned) : Type 0 where
+  pub place : ℕ
+  pub hypothesis : Hypothesis
+  pub is : slice_get hyps place ≡ Some hypothesis
+  pub group : is_some hypothesis.group ≡ true
+  pub says : CanSend p hypothesis.standing hypothesis.group t
+
+-- after an attempt that was acknowledged: what a hypothesis says one of those before says; or, where the source has heard the acknowledgement,
+-- it comes there from what one of them says
+abbrev pub IsHeardBy : Contents → List Hypothesis → Standing → Option Group → Type 0
+IsHeardBy p next s (Some g) = (t : Assigned) → IsSound p t → CanSend p s (Some g) t → SomeSays p next t
+IsHeardBy p next s None = (last : Assigned) × IsSound p last × SomeSays p next last × ((t : Assigned) → IsSound p t → CanStand p.codes.first_ldu s t.number t.give_ups → LeavesFor p.codes last true t.number t.give_ups)
+
+abbrev pub AreHeard : Contents → List Hypothesis → List Hypothesis → Type 0
+AreHeard p next hyps = (k : ℕ) (h : Hypothesis) → slice_get hyps k ≡ Some h → IsReal p h.standing h.group × IsHeardBy p next h.standing h.group
+
+-- each of the new hypotheses is an old one, but for its place in the trail
+abbrev pub AreSame : List Hypothesis → List Hypothesis → Type 0
+AreSame old new = (k : ℕ) (h : Hypothesis) → slice_get new k ≡ Some h → (j : ℕ) × (g : Hypothesis) × (slice_get old j ≡ Some g) × (h.standing ≡ g.standing) × (h.group ≡ g.group)
+
+-- hypotheses that are carried on to an attempt, and those after it, where it was acknowledged, or not
+pub record TakesOn (p : Contents) (hyps : List Hypothesis) (a : Attempt) (new : List Hypothesis) : Type 0 where
+  pub next : List Hypothesis
+  pub carried : AreReal p hyps → AreCarried p hyps a next
+  pub heard : List Hypothesis
+  pub after : (heard ≡ next) ⊎ ((is_some a.acknowledged ≡ true) × (AreCarried p hyps a next → AreHeard p next heard))
+  pub same : AreSame heard new
+
+-- some run's words begin with these, unless an item is named from which on that is not sure
+pub record IsSureUnless (p : Contents) (items : List Seen) (unsure_at : Option ℕ) : Type 0 where
+  pub inside : IfSome unsure_at (λ i. i < length items)
+  pub sure : unsure_at ≡ None → BeginsARun p items
+
+-- what a search answers: what is guessed of the run, and from where on it is not sure that there is one; or an entry with which no run's words
+-- begin; or one at which it was cut short
 abbrev pub IsFound : HeardValue → Found → Type 0
-IsFound d (found.Run guess) = IsGuess d.profile d.items guess
+IsFound d (found.Run guess unsure_at) = IsGuess d.profile d.items guess × IsSureUnless d.profile d.items unsure_at
 IsFound d (found.NoRun entry) = (entry < length d.items) × HasNoRun d.profile d.items entry
 IsFound d (found.CutShort entry) = IfSome entry (λ i. i < length d.items)

@@ -18,6 +18,7 @@ use Rattle.a429_link.specs.WholeBlock.{data_words}
 use Rattle.a429_search.specs.declared.attempts.Attempt.{Attempt}
 use Rattle.a429_search.specs.declared.attempts.StartWord.{StartWord}
 use Rattle.a429_search.specs.declared.pieces.EndWord.{EndWord}
+use Rattle.a429_search.specs.declared.pieces.GroupPieces.{GroupPieces}
 
 -- what the start word says that comes last among these, or, where there is none, what was said before
 abbrev pub start_by : Option Form → Option StartWord → Option StartWord
@@ -106,3 +107,9 @@ pub record MayBeOf (p : Contents) (b : Attempt) (u : LduValue) : Type 0 where
 pub record MayBeTo (p : Contents) (b : Attempt) (t : Assigned) : Type 0 where
   pub unit : MayBeOf p b t.unit
   pub number : IfSome b.start (λ s. s.number ≡ t.number)
+
+-- what the attempt recorded and what a group has recorded say the same of count, start word and end word, as far as both say something
+pub record Agree (g : GroupPieces) (a : Attempt) : Type 0 where
+  pub count : g.count ≡ a.count
+  pub gfi : IfSome g.gfi (λ m. IfSome (gfi_of a.start) (λ n. m ≡ n))
+  pub end : IfSome g.end (λ e. IfSome a.end (λ f. (e.flags ≡ f.flags) × (e.check ≡ f.check)))

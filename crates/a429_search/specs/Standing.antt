@@ -100,3 +100,43 @@ pub record LeaveNothingOut (first : ℕ) (s : Standing) (start : Option UnitNumb
   -- after a start word its number is known
   pub join_at : IfSome start (λ n. IfSome ways.join (IsAt n))
   pub begin_at : IfSome start (λ n. IfSome ways.begin (λ b. IsAt n b.1))
+
+-- ---- that nothing is made up
+
+-- by the standing the source can be at number m, with exactly g files given up since it last heard an acknowledgement. Before any start
+-- word it can be at the first number of any file, and more files may have been given up
+abbrev pub CanBe : ℕ → Option UnitNumber → Bool → Standing → UnitNumber → ℕ → Type 0
+CanBe first None started s m g = (m.ldu ≡ first) × (all_give_ups s ≤ g)
+CanBe first (Some n) true s m g = (m ≡ n) × (g ≡ s.give_ups)
+CanBe first (Some n) false s m g = (d : ℕ) × (s.since ≤ d) × (m ≡ past first n d) × (g ≡ s.give_ups + d)
+
+abbrev pub CanStand : ℕ → Standing → UnitNumber → ℕ → Type 0
+CanStand first s m g = CanBe first s.known s.is_started s m g
+
+-- it can be there by giving up files from where it can stand
+pub record CanComeTo (first : ℕ) (s : Standing) (m : UnitNumber) (g : ℕ) : Type 0 where
+  pub number : UnitNumber
+  pub give_ups : ℕ
+  pub range : IsInRange first number give_ups
+  pub stands : CanStand first s number give_ups
+  pub files : ℕ
+  pub some : 1 ≤ files
+  pub file : m.file ≡ (number.file + files) % 256
+  pub ldu : m.ldu ≡ first
+  pub all : g ≡ give_ups + files
+
+-- so each standing is: the start word of the present link data unit was recorded only where an attempt to send it was, and no file was given up
+-- since; the number is one of a file, and of a link data unit where one was to be sent under it; and not too many files are given up
+pub record IsRegular (first : ℕ) (s : Standing) (has_group : Bool) : Type 0 where
+  pub started : s.is_started ≡ true → (s.since ≡ 0) × (has_group ≡ true)
+  pub file : IfSome s.known (λ n. n.file ≤ 255)
+  pub loaded : has_group ≡ true → s.since ≡ 0 → IfSome s.known (λ n. n.ldu ≤ first + 254)
+  pub few : all_give_ups s ≤ 127
+
+-- the ways make nothing up: where the standing of a way says that the source can be, it comes there by the standing before, and the start word
+-- of the attempt has that number
+pub record MakeNothingUp (first : ℕ) (s : Standing) (start : Option UnitNumber) (has_group : Bool) (ways : Ways) : Type 0 where
+  pub join : IfSome ways.join (λ j. (m : UnitNumber) (g : ℕ) → IsInRange first m g → CanStand first j m g → IsNamed start m × CanStand first s m g)
+  pub begin : IfSome ways.begin (λ b. (m : UnitNumber) (g : ℕ) → IsInRange first m g → CanStand first b.1 m g → IsNamed start m × (has_group ≡ true → CanComeTo first s m g) × (has_group ≡ false → CanStand first s m g))
+  pub join_regular : IfSome ways.join (λ j. IsRegular first j true)
+  pub begin_regular : IfSome ways.begin (λ b. IsRegular first b.1 true)

@@ -195,7 +195,8 @@ pub(crate) fn copied(
     profile: &Profile,
     unit: &Ldu,
 ) -> Result<Option<Ldu>, AllocError>
-    ensures { IfOk result (λ found. IfSome found (λ u. IsLdu profile.now u)) }
+    ensures unit { IfOk result (λ found. IfSome found (λ u. IsLdu profile.now u)) }
+    ensures same { IfOk result (λ found. IfSome found (λ u. u ≡ unit.now)) }
 {
     match Ldu::new(
         alloc,

@@ -24,8 +24,11 @@ use std::alloc::Global;
 enum Judged {
     // No run's words begin with those up to this entry.
     NoRun(Contradiction),
-    // What is guessed of a run.
-    Guessed(Guess),
+    // What is guessed of a run, and from where on it is not sure that there is one.
+    Guessed {
+        guess: Guess,
+        unsure_at: Option<usize>,
+    },
     // Neither: the search was cut short, at this entry, where that is known.
     CutShort(Option<usize>),
 }
@@ -34,8 +37,8 @@ enum Judged {
 /// recording is impossible from the first word on that those before it do not allow, or that contradicts them, by the
 /// first of `BadBlock`, `WrongNumber` and `OtherBlock` that holds; or from an earlier word on, by `NoRun`, at which a search finds that
 /// no run goes on. Where there is no such word, the certificate of a run that the search finds explains the recording. Else the
-/// doubt is `NotReplayed`, at the entry at which the steps that the search guessed cannot be made, or `OutOfSteps`, at the request of the
-/// attempt at which the search was cut short.
+/// doubt is `OutOfSteps`, at the request of an attempt: the one at which the search was cut short, or the first after which it was no longer
+/// sure; or `NotReplayed`, where some run's words begin so, at the entry at which the steps that the search guessed cannot be made.
 pub fn decide(alloc: Global, profile: &Profile, entries: &[Entry]) -> Result<Verdict, OutOfMemory>
     ensures explained { IfOk result (λ v. IsSoundVerdict profile.now (items_of entries.now) v) }
     ensures some_run { IfOk result (λ v. IsOfSomeRun profile.now (items_of entries.now) v) }
@@ -69,15 +72,23 @@ pub fn decide(alloc: Global, profile: &Profile, entries: &[Entry]) -> Result<Ver
             Ok(Judged::NoRun(Contradiction { entry, reason })) => {
                 Ok(Verdict::Impossible { entry, reason })
             }
-            Ok(Judged::Guessed(guess)) => match explain_by(alloc, profile, entries, guess) {
+            Ok(Judged::Guessed { guess, unsure_at }) => match explain_by(
+                alloc, profile, entries, guess,
+            ) {
                 Ok(found) => Ok(Verdict::Explained {
                     certificate: found.certificate,
                     files: found.files,
                 }),
-                Err(Refusal::NotReplayed { entry }) => Ok(Verdict::Unexplained {
-                    entry,
-                    doubt: Doubt::NotReplayed,
-                }),
+                Err(Refusal::NotReplayed { entry }) => match unsure_at {
+                    Some(entry) => Ok(Verdict::Unexplained {
+                        entry,
+                        doubt: Doubt::OutOfSteps,
+                    }),
+                    None => Ok(Verdict::Unexplained {
+                        entry,
+                        doubt: Doubt::NotReplayed,
+                    }),
+                },
                 Err(Refusal::OutOfMemory) => Err(OutOfMemory),
             },
             Ok(Judged::CutShort(at)) => Ok(Verdict::Unexplained {
@@ -90,8 +101,8 @@ pub fn decide(alloc: Global, profile: &Profile, entries: &[Entry]) -> Result<Ver
     }
 }
 
-/// Whether some run's words begin with these: `decide` explains them. `false` says nothing: it was not found. Of the words before an
-/// entry that is impossible `true` says that no earlier entry is.
+/// Whether some run's words begin with these: `decide` explains them, or its search is sure. `false` says nothing: it was not found. Of the
+/// words before an entry that is impossible `true` says that no earlier entry is.
 pub fn begins_a_run(
     alloc: Global,
     profile: &Profile,
@@ -101,6 +112,12 @@ pub fn begins_a_run(
 {
     match decide(alloc, profile, entries) {
         Ok(Verdict::Explained { .. }) => Ok(true),
+        Ok(
+            Verdict::Unexplained {
+                doubt: Doubt::NotReplayed,
+                ..
+            },
+        ) => Ok(true),
         Ok(_) => Ok(false),
         Err(OutOfMemory) => Err(OutOfMemory),
     }
@@ -118,7 +135,7 @@ fn earlier(
 {
     match look_closer(alloc, profile, entries)? {
         Judged::NoRun(found) => Ok(Some(found)),
-        Judged::Guessed(_) => Ok(None),
+        Judged::Guessed { .. } => Ok(None),
         Judged::CutShort(_) => Ok(None),
     }
 }
@@ -144,7 +161,7 @@ fn look_closer(alloc: Global, profile: &Profile, entries: &[Entry]) -> Result<Ju
         };
     }
     match search_for_run(alloc, &decoded) {
-        Ok(Found::Run(guess)) => Ok(Judged::Guessed(guess)),
+        Ok(Found::Run { guess, unsure_at }) => Ok(Judged::Guessed { guess, unsure_at }),
         Ok(Found::NoRun { entry }) => {
             let reason = Reason::NoRun;
             Ok(Judged::NoRun(Contradiction { entry, reason }))

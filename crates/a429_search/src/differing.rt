@@ -1,6 +1,6 @@
 //! The attempts of a group that differ.
 
-ghost use Rattle.std.specs.Prelude.{◌≡◌, ◌≤◌, ◌<◌, ◌↔◌, ℕ, List, IfOk, IfSome, IfNone, OnOk, IsTrue, EachIndex, SomeIndex, length};
+ghost use Rattle.std.specs.Prelude.{◌≡◌, true, ◌≤◌, ◌<◌, ◌↔◌, ℕ, List, IfOk, IfSome, IfNone, OnOk, IsTrue, EachIndex, SomeIndex, length};
 ghost use Rattle.a429_link.specs.Run.{IsSubsequenceOf};
 ghost use Rattle.a429_search.specs.Order.{lists_of, words_at, HasEach};
 
@@ -48,6 +48,7 @@ pub(crate) fn lists_with(
     is_new: bool,
     budget: &mut Budget,
 ) -> Result<Option<Vec<Vec<Word>>>, AllocError>
+    ensures all { IfOk result (λ found. IfSome found (λ kept. (zs : List ℕ) → HasEach zs (lists_of kept.items) → HasEach zs (lists_of lists.now) × (is_new ≡ true → IsSubsequenceOf list.now zs))) }
     ensures only { IfOk result (λ found. IfSome found (λ kept. (zs : List ℕ) → HasEach zs (lists_of lists.now) → IsSubsequenceOf list.now zs → HasEach zs (lists_of kept.items))) }
     ensures cut { budget.new.is_cut ≡ budget.old.is_cut }
 {

@@ -1,10 +1,12 @@
 //! Groups: attempts of one link data unit.
 
-ghost use Rattle.std.specs.Prelude.{◌≡◌, ◌≤◌, ℕ, Ok, None, true, false, IfOk, IfSome, IsTrue};
+ghost use Rattle.std.specs.Prelude.{◌≡◌, ◌≤◌, ℕ, Ok, None, true, false, IfOk, IfSome, IsTrue, SomeIndex};
+ghost use Rattle.a429_link.specs.Run.{IsSubsequenceOf};
+ghost use Rattle.a429_search.specs.Order.{lists_of, words_at};
 ghost use Rattle.a429_profile.specs.Profile.{Contents};
 ghost use Rattle.a429_ldu.specs.Ldu.{LduValue};
 ghost use Rattle.a429_search.specs.Block.{MayBeUnitOf};
-ghost use Rattle.a429_search.specs.Recorded.{MayBeOf};
+ghost use Rattle.a429_search.specs.Recorded.{Agree, MayBeOf};
 
 use crate::attempts::Attempt;
 use crate::block::{copied, unit_of_pieces};
@@ -36,6 +38,8 @@ impl Group {
         budget: &mut Budget,
     ) -> Result<Option<Group>, AllocError>
         ensures covers { IfOk result (λ found. IfSome found (λ g. (u : LduValue) → MayBeOf profile.now attempt.now u → MayBeUnitOf profile.now g.pieces u)) }
+        ensures only { IfOk result (λ found. IfSome found (λ g. (u : LduValue) → MayBeUnitOf profile.now g.pieces u → MayBeOf profile.now attempt.now u)) }
+        ensures unit { IfOk result (λ found. IfSome found (λ g. MayBeUnitOf profile.now g.pieces g.unit)) }
         ensures none { result ≡ Ok None → budget.new.is_cut ≡ false → (u : LduValue) → ¬ MayBeOf profile.now attempt.now u }
         ensures cut { budget.old.is_cut ≡ true → budget.new.is_cut ≡ true }
     {
@@ -64,6 +68,8 @@ impl Group {
         budget: &mut Budget,
     ) -> Result<Option<Group>, AllocError>
         ensures covers { IfOk result (λ found. IfSome found (λ g. (u : LduValue) → MayBeUnitOf profile.now self.now.pieces u → MayBeOf profile.now attempt.now u → MayBeUnitOf profile.now g.pieces u)) }
+        ensures only { IfOk result (λ found. IfSome found (λ g. (u : LduValue) → MayBeUnitOf profile.now g.pieces u → MayBeUnitOf profile.now self.now.pieces u × MayBeOf profile.now attempt.now u)) }
+        ensures unit { MayBeUnitOf profile.now self.now.pieces self.now.unit → IfOk result (λ found. IfSome found (λ g. MayBeUnitOf profile.now g.pieces g.unit)) }
         ensures none { result ≡ Ok None → budget.new.is_cut ≡ false → (u : LduValue) → MayBeUnitOf profile.now self.now.pieces u → ¬ MayBeOf profile.now attempt.now u }
         ensures cut { budget.old.is_cut ≡ true → budget.new.is_cut ≡ true }
     {
@@ -81,7 +87,7 @@ impl Group {
             return Ok(None);
         };
         let at = self.at;
-        let says_more = is_new || pieces.gfi != self.pieces.gfi || pieces.end != self.pieces.end;
+        let says_more = is_new || !have_same_words(&pieces, &self.pieces);
         if !says_more && let Some(unit) = copied(alloc, profile, &self.unit)? {
             return Ok(Some(Group { at, pieces, unit }));
         }
@@ -93,7 +99,8 @@ impl Group {
 
     // Count, general format identifier or end word of the attempt are not the group's.
     fn contradicts(&self, attempt: &Attempt) -> bool
-        ensures { IsTrue result → (p : Contents) (u : LduValue) → MayBeUnitOf p self.now.pieces u → ¬ MayBeOf p attempt.now u }
+        ensures other { IsTrue result → (p : Contents) (u : LduValue) → MayBeUnitOf p self.now.pieces u → ¬ MayBeOf p attempt.now u }
+        ensures agree { result ≡ false → Agree self.now.pieces attempt.now }
     {
         self.pieces.count != attempt.count
             || are_other(self.pieces.gfi, attempt.gfi())
@@ -114,7 +121,10 @@ impl Group {
         is_new: bool,
         budget: &mut Budget,
     ) -> Result<Option<GroupPieces>, AllocError>
+        requires has { is_new ≡ false → SomeIndex self.now.pieces.attempts.items (λ i. IsSubsequenceOf attempt.now.words.items (words_at (lists_of self.now.pieces.attempts.items) i)) }
         ensures covers { IfOk result (λ found. IfSome found (λ g. (p : Contents) (u : LduValue) → MayBeUnitOf p self.now.pieces u → MayBeOf p attempt.now u → MayBeUnitOf p g u)) }
+        ensures only { Agree self.now.pieces attempt.now → IfOk result (λ found. IfSome found (λ g. (p : Contents) (u : LduValue) → MayBeUnitOf p g u → MayBeUnitOf p self.now.pieces u × MayBeOf p attempt.now u)) }
+        ensures same { is_new ≡ false → IfOk result (λ found. IfSome found (λ g. (g.gfi ≡ self.now.pieces.gfi) → (g.end ≡ self.now.pieces.end) → (p : Contents) (u : LduValue) → MayBeUnitOf p self.now.pieces u → MayBeUnitOf p g u)) }
         ensures cut { budget.new.is_cut ≡ budget.old.is_cut }
     {
         let taken = &self.pieces.attempts;
@@ -130,9 +140,18 @@ impl Group {
     }
 }
 
+// The same is known of their start words and of their end words.
+fn have_same_words(one: &GroupPieces, other: &GroupPieces) -> bool
+    ensures gfi { IsTrue result → one.now.gfi ≡ other.now.gfi }
+    ensures end { IsTrue result → one.now.end ≡ other.now.end }
+{
+    one.gfi == other.gfi && one.end == other.end
+}
+
 // Both are known, and they differ.
 fn are_other(one: Option<u8>, other: Option<u8>) -> bool
-    ensures { IsTrue result → (n : ℕ) → IfSome one (λ m. n ≡ m) → ¬ IfSome other (λ m. n ≡ m) }
+    ensures other { IsTrue result → (n : ℕ) → IfSome one (λ m. n ≡ m) → ¬ IfSome other (λ m. n ≡ m) }
+    ensures agree { result ≡ false → IfSome one (λ m. IfSome other (λ n. m ≡ n)) }
 {
     match (one, other) {
         (Some(one), Some(other)) => one != other,
@@ -142,7 +161,8 @@ fn are_other(one: Option<u8>, other: Option<u8>) -> bool
 
 // The same of end words.
 fn are_other_ends(one: Option<EndWord>, other: Option<EndWord>) -> bool
-    ensures { IsTrue result → (flags check : ℕ) → IfSome one (λ e. (flags ≡ e.flags) × (check ≡ e.check)) → ¬ IfSome other (λ e. (flags ≡ e.flags) × (check ≡ e.check)) }
+    ensures other { IsTrue result → (flags check : ℕ) → IfSome one (λ e. (flags ≡ e.flags) × (check ≡ e.check)) → ¬ IfSome other (λ e. (flags ≡ e.flags) × (check ≡ e.check)) }
+    ensures agree { result ≡ false → IfSome one (λ e. IfSome other (λ f. (e.flags ≡ f.flags) × (e.check ≡ f.check))) }
 {
     match (one, other) {
         (Some(one), Some(other)) => one.flags != other.flags || one.check != other.check,
@@ -158,6 +178,7 @@ fn unit_found(
     pieces: &GroupPieces,
     budget: &mut Budget,
 ) -> Result<Option<Ldu>, AllocError>
+    ensures some { IfOk result (λ found. IfSome found (MayBeUnitOf profile.now pieces.now)) }
     ensures exact { result ≡ Ok None → budget.new.is_cut ≡ false → (u : LduValue) → ¬ MayBeUnitOf profile.now pieces.now u }
     ensures cut { budget.old.is_cut ≡ true → budget.new.is_cut ≡ true }
 {

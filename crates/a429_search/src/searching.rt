@@ -1,14 +1,15 @@
 //! The search for a run that recorded the words of a recording with losses, or for the first word at which no run goes on.
 
-ghost use Rattle.std.specs.Prelude.{◌≡◌, ◌<◌, ◌≤◌, ◌+◌, ℕ, [], Ok, Option, None, Some, true, false, IfOk, IfSome, IsTrue, OnOk, length, slice_get};
+ghost use Rattle.std.specs.Prelude.{◌≡◌, ◌⊎◌, ◌<◌, ◌≤◌, ◌+◌, ℕ, [], Ok, Option, None, Some, true, false, IfOk, IfSome, IsSomeAnd, IsTrue, OnOk, List, is_some, length, slice_get};
 ghost use Rattle.a429_profile.specs.Profile.{Contents};
 ghost use Rattle.a429_ldu.specs.Ldu.{LduValue};
 ghost use Rattle.a429_link.specs.Assignment.{Assigned, IsSound};
 ghost use Rattle.a429_explain.specs.Guess.{IsGuess};
+ghost use Rattle.a429_explain.specs.Walk.{AreAllowedUpTo};
 ghost use Rattle.a429_search.specs.Block.{MayBeUnitOf};
-ghost use Rattle.a429_search.specs.Frontier.{AreAt, AreCovered, AreKept, CarriesOn, Covers, FitsGroup, FitsNone, GoOnFrom, HasFewest, IsAmong, IsFound, IsRefused, IsStart};
+ghost use Rattle.a429_search.specs.Frontier.{AddCarried, AreAt, AreCarried, AreCovered, AreHeard, AreKept, AreReal, AreSame, CarriesOn, Covers, FitsGroup, FitsNone, GoOnFrom, HasFewest, IsAmong, IsFound, IsReal, IsRefused, IsStart, TakesOn};
 ghost use Rattle.a429_search.specs.Recorded.{MayBeOf, MayBeTo, number_of};
-ghost use Rattle.a429_search.specs.Standing.{Begins, IsAt, Stands, StandsLater};
+ghost use Rattle.a429_search.specs.Standing.{Begins, IsAt, MakeNothingUp, Stands, StandsLater};
 
 use crate::attempts::{Attempt, attempt_of, first_request, next_request};
 use crate::budget::Budget;
@@ -38,12 +39,20 @@ pub(crate) struct Hypothesis {
 /// What a search finds.
 #[derive(Drop)]
 pub(crate) enum Found {
-    /// What is guessed of a run.
-    Run(Guess),
+    /// What is guessed of a run. Where the search is not sure that some run's words begin with these, the entry of the request of the first
+    /// attempt after which it is not.
+    Run {
+        guess: Guess,
+        unsure_at: Option<usize>,
+    },
     /// No run's words begin with those up to this entry.
-    NoRun { entry: usize },
+    NoRun {
+        entry: usize,
+    },
     /// Neither: the search was cut short. The entry is that of the request at which it first was, where that is known.
-    CutShort { entry: Option<usize> },
+    CutShort {
+        entry: Option<usize>,
+    },
 }
 
 // What carries hypotheses on: the groups that they have closed, and the steps that are left.
@@ -60,6 +69,8 @@ struct Search<'a> {
     hypotheses: Vec<Hypothesis>,
     // The hypotheses leave nothing out that the source may have done.
     is_whole: bool,
+    // They make nothing up: what each of them says the source can have done.
+    is_sure: bool,
     carrier: Carrier<'a>,
 }
 
@@ -67,6 +78,7 @@ struct Search<'a> {
 /// the answer is an entry of it with which none is left, found by halving. Else what the hypothesis with the fewest files given up
 /// says of a run.
 pub(crate) fn search_for_run(alloc: Global, decoded: &Decoded) -> Result<Found, AllocError>
+    requires { AreAllowedUpTo decoded.now.profile decoded.now.items (length decoded.now.items) }
     ensures { IfOk result (IsFound decoded.now) }
 {
     runs_record_what_can_be_assigned();
@@ -74,6 +86,7 @@ pub(crate) fn search_for_run(alloc: Global, decoded: &Decoded) -> Result<Found, 
     let mut search = Search::new(alloc, decoded)?;
     let mut from = first_request(decoded);
     let mut cut_at = None;
+    let mut unsure_at = None;
     'attempts: while from < decoded.len() {
         let to = next_request(decoded, from);
         let Some(attempt) = attempt_of(alloc, decoded, from, to)? else {
@@ -89,10 +102,15 @@ pub(crate) fn search_for_run(alloc: Global, decoded: &Decoded) -> Result<Found, 
         } else {
             cut_at.or(Some(from))
         };
+        unsure_at = if search.is_sure {
+            None
+        } else {
+            unsure_at.or(Some(from))
+        };
         from = to;
     }
     match search.guess(decoded)? {
-        Some(guess) => Ok(Found::Run(guess)),
+        Some(guess) => Ok(Found::Run { guess, unsure_at }),
         None => Ok(Found::CutShort { entry: cut_at }),
     }
 }
@@ -100,6 +118,7 @@ pub(crate) fn search_for_run(alloc: Global, decoded: &Decoded) -> Result<Found, 
 impl<'a> Search<'a> {
     fn new(alloc: Global, decoded: &Decoded<'a>) -> Result<Search<'a>, AllocError>
         ensures start { IfOk result (λ s. IsStart s.hypotheses.items) }
+        ensures sure { IfOk result (λ s. s.is_sure ≡ true) }
     {
         let mut hypotheses = Vec::new(alloc);
         hypotheses.push(Hypothesis {
@@ -111,6 +130,7 @@ impl<'a> Search<'a> {
         Ok(Search {
             hypotheses,
             is_whole: true,
+            is_sure: true,
             carrier: Carrier {
                 alloc,
                 trail: Trail::new(alloc, decoded.profile()),
@@ -123,10 +143,11 @@ impl<'a> Search<'a> {
     fn take(&mut self, profile: &Profile, attempt: &Attempt) -> Result<bool, AllocError>
         ensures refused { IfOk result (λ goes_on. goes_on ≡ false → (self.new.hypotheses ≡ self.old.hypotheses) × (self.old.is_whole ≡ true) × FitsNone profile.now self.old.hypotheses.items attempt.now) }
         ensures covers { IfOk result (λ goes_on. goes_on ≡ true → self.new.is_whole ≡ true → GoOnFrom profile.now self.old.is_whole self.old.hypotheses.items attempt.now self.new.hypotheses.items) }
+        ensures sure { IfOk result (λ goes_on. goes_on ≡ true → self.new.is_sure ≡ true → (self.old.is_sure ≡ true) × TakesOn profile.now self.old.hypotheses.items attempt.now self.new.hypotheses.items) }
     {
         let next = self.carrier.carried(profile, &self.hypotheses, attempt)?;
         let is_whole = self.is_still_whole();
-        if is_whole && next.is_empty() {
+        if is_whole && are_none(&next) {
             return Ok(false);
         }
         if attempt.acknowledged.is_none() {
@@ -140,6 +161,7 @@ impl<'a> Search<'a> {
             self.hypotheses = next;
             return Ok(true);
         };
+        self.is_sure = self.is_sure && is_whole;
         self.is_whole = true;
         self.hypotheses = self.carrier.trail.leave_out(heard)?;
         Ok(true)
@@ -172,7 +194,8 @@ impl<'a> Search<'a> {
 
     // What is guessed by the hypothesis with the fewest files given up; `None` where none is left.
     fn guess(self, decoded: &Decoded) -> Result<Option<Guess>, AllocError>
-        ensures { IfOk result (λ found. IfSome found (IsGuess decoded.now.profile decoded.now.items)) }
+        ensures guess { IfOk result (λ found. IfSome found (IsGuess decoded.now.profile decoded.now.items)) }
+        ensures some { IfOk result (λ found. IfSome found (λ g. (k : ℕ) × (h : Hypothesis) × (slice_get self.entry.hypotheses.items k ≡ Some h))) }
     {
         let Search {
             hypotheses,
@@ -213,6 +236,7 @@ impl<'a> Carrier<'a> {
     ) -> Result<Vec<Hypothesis>, AllocError>
         ensures covers { IfOk result (λ next. self.new.budget.is_cut ≡ false → CarriesOn profile.now hypotheses.now attempt.now next.items) }
         ensures at { IfOk result (λ next. AreAt (number_of attempt.now.start) next.items) }
+        ensures only { IfOk result (λ next. AreReal profile.now hypotheses.now → AreCarried profile.now hypotheses.now attempt.now next.items) }
     {
         self.budget = self.budget.afresh();
         let mut next = Vec::new(self.alloc);
@@ -285,6 +309,7 @@ impl<'a> Carrier<'a> {
         ensures covers { OnOk result (self.new.budget.is_cut ≡ false → (t : Assigned) → IsSound profile.now t → MayBeTo profile.now attempt.now t → Covers profile.now hypothesis.now t → AreCovered profile.now next.new.items t) }
         ensures kept { OnOk result (AreKept next.old.items next.new.items) }
         ensures at { OnOk result (AreAt (number_of attempt.now.start) next.old.items → AreAt (number_of attempt.now.start) next.new.items) }
+        ensures only { OnOk result (IsReal profile.now hypothesis.now.standing hypothesis.now.group → AddCarried profile.now hypothesis.now attempt.now next.old.items next.new.items) }
         ensures cut { self.old.budget.is_cut ≡ true → self.new.budget.is_cut ≡ true }
     {
         let first_ldu = profile.codes().first_ldu;
@@ -311,6 +336,7 @@ impl<'a> Carrier<'a> {
         ensures covers { IfOk result (λ joins. self.new.budget.is_cut ≡ false → (t : Assigned) → MayBeOf profile.now attempt.now t.unit → FitsGroup profile.now hypothesis.now.group t.unit → IfSome ways.now.join (λ j. IsAmong profile.now.codes.first_ldu j t → AreCovered profile.now next.new.items t)) }
         ensures later { IfOk result (λ joins. joins ≡ true → (t : Assigned) → IfSome ways.now.join (λ j. StandsLater profile.now.codes.first_ldu j t.number t.give_ups) → AreCovered profile.now next.new.items t) }
         ensures kept { OnOk result (AreKept next.old.items next.new.items) }
+        ensures only { OnOk result (MakeNothingUp profile.now.codes.first_ldu hypothesis.now.standing (number_of attempt.now.start) (is_some hypothesis.now.group) ways.now → IsReal profile.now hypothesis.now.standing hypothesis.now.group → AddCarried profile.now hypothesis.now attempt.now next.old.items next.new.items) }
         ensures at { OnOk result ((start : Option UnitNumber) → IfSome start (λ n. IfSome ways.now.join (IsAt n)) → AreAt start next.old.items → AreAt start next.new.items) }
         ensures cut { self.old.budget.is_cut ≡ true → self.new.budget.is_cut ≡ true }
     {
@@ -340,6 +366,7 @@ impl<'a> Carrier<'a> {
     ) -> Result<(), AllocError>
         ensures covers { OnOk result (self.new.budget.is_cut ≡ false → (t : Assigned) → MayBeOf profile.now attempt.now t.unit → Begins ways.now (λ b. Stands profile.now.codes.first_ldu b t.number t.give_ups) → AreCovered profile.now next.new.items t) }
         ensures kept { OnOk result (AreKept next.old.items next.new.items) }
+        ensures only { OnOk result (MakeNothingUp profile.now.codes.first_ldu hypothesis.now.standing (number_of attempt.now.start) (is_some hypothesis.now.group) ways.now → IsReal profile.now hypothesis.now.standing hypothesis.now.group → AddCarried profile.now hypothesis.now attempt.now next.old.items next.new.items) }
         ensures at { OnOk result ((start : Option UnitNumber) → IfSome start (λ n. IfSome ways.now.begin (λ b. IsAt n b.1)) → AreAt start next.old.items → AreAt start next.new.items) }
         ensures cut { self.old.budget.is_cut ≡ true → self.new.budget.is_cut ≡ true }
     {
@@ -368,6 +395,8 @@ impl<'a> Carrier<'a> {
         attempt: &Attempt,
     ) -> Result<Option<Group>, AllocError>
         ensures covers { IfOk result (λ found. IfSome found (λ g. (u : LduValue) → FitsGroup profile.now hypothesis.now.group u → MayBeOf profile.now attempt.now u → MayBeUnitOf profile.now g.pieces u)) }
+        ensures only { IfOk result (λ found. IfSome found (λ g. (u : LduValue) → MayBeUnitOf profile.now g.pieces u → FitsGroup profile.now hypothesis.now.group u × MayBeOf profile.now attempt.now u)) }
+        ensures unit { IfSome hypothesis.now.group (λ g. MayBeUnitOf profile.now g.pieces g.unit) → IfOk result (λ found. IfSome found (λ g. MayBeUnitOf profile.now g.pieces g.unit)) }
         ensures none { result ≡ Ok None → self.new.budget.is_cut ≡ false → (u : LduValue) → FitsGroup profile.now hypothesis.now.group u → ¬ MayBeOf profile.now attempt.now u }
         ensures cut { self.old.budget.is_cut ≡ true → self.new.budget.is_cut ≡ true }
     {
@@ -403,11 +432,15 @@ impl<'a> Carrier<'a> {
         attempt: &Attempt,
     ) -> Result<Option<Vec<Hypothesis>>, AllocError>
         requires { AreAt (number_of attempt.now.start) next.now }
-        ensures { IfOk result (λ found. IfSome found (λ heard. GoOnFrom profile.now is_whole next.now attempt.now heard.items)) }
+        ensures covers { IfOk result (λ found. IfSome found (λ heard. GoOnFrom profile.now is_whole next.now attempt.now heard.items)) }
+        ensures only { IfOk result (λ found. IfSome found (λ heard. is_whole ≡ true → (next.now ≡ [] → ⊥) → (hyps : List Hypothesis) → AreCarried profile.now hyps attempt.now next.now → AreHeard profile.now next.now heard.items)) }
     {
         let (Some(start), Some(end)) = (attempt.start, attempt.end) else {
             return Ok(None);
         };
+        if attempt.words.len() + 2 != usize::from(attempt.count) {
+            return Ok(None);
+        }
         let begun = Group::begin(self.alloc, profile, attempt, &mut self.budget)?;
         let Some(group) = begun else {
             return Ok(None);
@@ -432,7 +465,8 @@ impl<'a> Carrier<'a> {
 // left out before, none is given up.
 fn merged(next: &[Hypothesis], is_whole: bool, number: UnitNumber, group: Group) -> Hypothesis
     ensures at { IsAt number result.standing }
-    ensures group { (p : Contents) (u : LduValue) → MayBeUnitOf p group.pieces u → FitsGroup p result.group u }
+    ensures group { IsSomeAnd result.group (λ g. (g.pieces ≡ group.pieces) × (g.unit ≡ group.unit)) }
+    ensures one_of { is_whole ≡ true → (next.now ≡ []) ⊎ ((k : ℕ) × (h : Hypothesis) × (slice_get next.now k ≡ Some h) × (result.standing.give_ups ≡ h.standing.give_ups)) }
     ensures few { is_whole ≡ true → (k : ℕ) (h : Hypothesis) → slice_get next.now k ≡ Some h → IsAt number h.standing → result.standing.give_ups ≤ h.standing.give_ups }
     ensures none { is_whole ≡ false → result.standing.give_ups ≡ 0 }
 {
@@ -460,7 +494,8 @@ fn merged(next: &[Hypothesis], is_whole: bool, number: UnitNumber, group: Group)
 
 // None is left.
 fn are_none(hypotheses: &[Hypothesis]) -> bool
-    ensures { IsTrue result → hypotheses.now ≡ [] }
+    ensures none { IsTrue result → hypotheses.now ≡ [] }
+    ensures some { result ≡ false → hypotheses.now ≡ [] → ⊥ }
 {
     hypotheses.is_empty()
 }

@@ -1,7 +1,7 @@
 //! Where a source may stand: what it may have done up to an attempt.
 
-ghost use Rattle.std.specs.Prelude.{◌≡◌, false, None, Some, IsTrue, if◌then◌else◌};
-ghost use Rattle.a429_search.specs.Standing.{all_give_ups, IsAt, IsGivenUp, IsHeard, IsPastLast, KeepGiveUps, LeaveNothingOut};
+ghost use Rattle.std.specs.Prelude.{◌≡◌, ◌≤◌, ◌+◌, false, None, Some, IfSome, IsTrue, if◌then◌else◌};
+ghost use Rattle.a429_search.specs.Standing.{all_give_ups, IsAt, IsGivenUp, IsHeard, IsPastLast, IsRegular, KeepGiveUps, LeaveNothingOut, MakeNothingUp};
 
 use a429_link::UnitNumber;
 
@@ -52,6 +52,7 @@ impl Standing {
     pub(crate) fn ways(&self, first_ldu: u8, start: Option<UnitNumber>, has_group: bool) -> Ways
         ensures kept { KeepGiveUps self.now result }
         ensures covers { LeaveNothingOut first_ldu self.now start has_group result }
+        ensures only { IsRegular first_ldu self.now has_group → MakeNothingUp first_ldu self.now start has_group result }
     {
         match (start, self.known) {
             (None, _) => self.ways_without_start(first_ldu, has_group),
@@ -69,7 +70,8 @@ impl Standing {
 
     // The number known last is past the last that a file may have: nothing can be loaded there.
     fn is_past_last(&self, first_ldu: u8) -> bool
-        ensures { IsTrue result → IsPastLast first_ldu self.now }
+        ensures past { IsTrue result → IsPastLast first_ldu self.now }
+        ensures inside { result ≡ false → self.now.is_started ≡ false → self.now.since ≡ 0 → IfSome self.now.known (λ n. n.ldu ≤ first_ldu + 254) }
     {
         match self.known {
             Some(known) if !self.is_started && self.since == 0 => {
@@ -98,6 +100,7 @@ impl Standing {
     fn ways_without_start(&self, first_ldu: u8, has_group: bool) -> Ways
         ensures kept { KeepGiveUps self.now result }
         ensures covers { LeaveNothingOut first_ldu self.now None has_group result }
+        ensures only { IsRegular first_ldu self.now has_group → MakeNothingUp first_ldu self.now None has_group result }
     {
         if self.is_past_last(first_ldu) {
             return Ways {
@@ -118,6 +121,7 @@ impl Standing {
         requires { self.now.known ≡ None }
         ensures kept { KeepGiveUps self.now result }
         ensures covers { LeaveNothingOut first_ldu self.now (Some number) has_group result }
+        ensures only { IsRegular first_ldu self.now has_group → MakeNothingUp first_ldu self.now (Some number) has_group result }
     {
         let all = self.all_give_ups();
         if number.ldu != u16::from(first_ldu) || all > MOST_GIVE_UPS {
@@ -175,6 +179,7 @@ impl Standing {
         requires { self.now.known ≡ Some known }
         ensures kept { KeepGiveUps self.now result }
         ensures covers { LeaveNothingOut first_ldu self.now (Some number) has_group result }
+        ensures only { IsRegular first_ldu self.now has_group → MakeNothingUp first_ldu self.now (Some number) has_group result }
     {
         let past = number.file.wrapping_sub(known.file);
         if past == 0 && self.since == 0 {

@@ -4,7 +4,7 @@ ghost use Rattle.std.specs.Prelude.{◌≡◌, IfOk, IfSome, OnOk, length};
 ghost use Rattle.a429_profile.specs.Profile.{Contents};
 ghost use Rattle.a429_link.specs.Assignment.{Assigned};
 ghost use Rattle.a429_explain.specs.Plan.{ArePlans};
-ghost use Rattle.a429_search.specs.Frontier.{AreCovered};
+ghost use Rattle.a429_search.specs.Frontier.{AreCovered, AreSame};
 
 use crate::block::copied;
 use crate::searching::Hypothesis;
@@ -90,7 +90,8 @@ impl<'a> Trail<'a> {
         &mut self,
         hypotheses: Vec<Hypothesis>,
     ) -> Result<Vec<Hypothesis>, AllocError>
-        ensures { IfOk result (λ same. (p : Contents) (t : Assigned) → AreCovered p hypotheses.items t → AreCovered p same.items t) }
+        ensures covers { IfOk result (λ same. (p : Contents) (t : Assigned) → AreCovered p hypotheses.items t → AreCovered p same.items t) }
+        ensures same { IfOk result (λ same. AreSame hypotheses.items same.items) }
     {
         if self.closed.len() < self.most {
             return Ok(hypotheses);

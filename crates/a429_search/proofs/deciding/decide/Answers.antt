@@ -1,4 +1,4 @@
-use Rattle.std.proofs.Common.{List, length, slice_get, take, Option, Ok, IfSome, sym, ap, subst, inl, inr, arith}
+use Rattle.std.proofs.Common.{ℕ, ◌<◌, List, length, slice_get, take, Option, Ok, IfSome, sym, ap, subst, inl, inr, arith}
 use Rattle.std.proofs.lemmas.List.{take-map}
 use Rattle.a429_link.specs.declared.seen.Seen.{Seen}
 use Rattle.a429_cert.specs.Explained.{items_of, seen_of}
@@ -106,25 +106,44 @@ returns-in-Ok-clause-first c =
     let none = subst (λ (j : Judged). IsJudged p items j) c.in-Ok-Guessed.field-0-is c.in-Ok-Guessed.ensures in
     no_reason_at_all p items (doubt.0, none.1)
 
-pub returns-in-Err-NotReplayed-clause-first : goal.returns-in-Err-NotReplayed-clause-first
-returns-in-Err-NotReplayed-clause-first c =
+pub returns-in-Some-clause-first : goal.returns-in-Some-clause-first
+returns-in-Some-clause-first c =
     let p = c.args.profile.now in
     let items = items_of c.args.entries.now in
     let doubt = subst (λ (v : Verdict). IsFirst p items v) c.in-Ok-Unexplained.field-0-is c.in-Ok-Unexplained.ensures.first in
     let none = subst (λ (j : Judged). IsJudged p items j) c.in-Ok-Guessed.field-0-is c.in-Ok-Guessed.ensures in
     no_reason_at_all p items (doubt.0, none.1)
 
-pub returns-in-Err-NotReplayed-clause-left_open : goal.returns-in-Err-NotReplayed-clause-left_open
-returns-in-Err-NotReplayed-clause-left_open c =
+pub returns-in-Some-clause-doubted : goal.returns-in-Some-clause-doubted
+returns-in-Some-clause-doubted c =
     let p = c.args.profile.now in
     let items = items_of c.args.entries.now in
-    let why =
-    subst (λ (r : Refusal). IsWhyNotWritten p items c.in-Ok-Guessed.guess r) c.in-Err-NotReplayed.field-0-is
-    c.in-Err-NotReplayed.ensures.refused in
-    why.1
+    let none = subst (λ (j : Judged). IsJudged p items j) c.in-Ok-Guessed.field-0-is c.in-Ok-Guessed.ensures in
+    subst (λ (o : Option ℕ). IfSome o (λ i. i < length items)) c.in-Some.is none.2.inside
 
-pub returns-in-Err-NotReplayed-clause-doubted : goal.returns-in-Err-NotReplayed-clause-doubted
-returns-in-Err-NotReplayed-clause-doubted c =
+pub returns-in-Some-clause-of_check : goal.returns-in-Some-clause-of_check
+returns-in-Some-clause-of_check c =
+    doubt_of_check c.args.profile.now (items_of c.args.entries.now) c.in-Ok-Unexplained.entry _
+    (subst (λ (v : Verdict). IsFirst c.args.profile.now (items_of c.args.entries.now) v) c.in-Ok-Unexplained.field-0-is
+    c.in-Ok-Unexplained.ensures.first)
+
+pub returns-in-None-clause-first : goal.returns-in-None-clause-first
+returns-in-None-clause-first c =
+    let p = c.args.profile.now in
+    let items = items_of c.args.entries.now in
+    let doubt = subst (λ (v : Verdict). IsFirst p items v) c.in-Ok-Unexplained.field-0-is c.in-Ok-Unexplained.ensures.first in
+    let none = subst (λ (j : Judged). IsJudged p items j) c.in-Ok-Guessed.field-0-is c.in-Ok-Guessed.ensures in
+    no_reason_at_all p items (doubt.0, none.1)
+
+pub returns-in-None-clause-left_open : goal.returns-in-None-clause-left_open
+returns-in-None-clause-left_open c =
+    let p = c.args.profile.now in
+    let items = items_of c.args.entries.now in
+    let none = subst (λ (j : Judged). IsJudged p items j) c.in-Ok-Guessed.field-0-is c.in-Ok-Guessed.ensures in
+    none.2.sure c.in-None.is
+
+pub returns-in-None-clause-doubted : goal.returns-in-None-clause-doubted
+returns-in-None-clause-doubted c =
     let p = c.args.profile.now in
     let items = items_of c.args.entries.now in
     let why =
@@ -132,8 +151,8 @@ returns-in-Err-NotReplayed-clause-doubted c =
     c.in-Err-NotReplayed.ensures.refused in
     why.0
 
-pub returns-in-Err-NotReplayed-clause-of_check : goal.returns-in-Err-NotReplayed-clause-of_check
-returns-in-Err-NotReplayed-clause-of_check c =
+pub returns-in-None-clause-of_check : goal.returns-in-None-clause-of_check
+returns-in-None-clause-of_check c =
     doubt_of_check c.args.profile.now (items_of c.args.entries.now) c.in-Ok-Unexplained.entry _
     (subst (λ (v : Verdict). IsFirst c.args.profile.now (items_of c.args.entries.now) v) c.in-Ok-Unexplained.field-0-is
     c.in-Ok-Unexplained.ensures.first)

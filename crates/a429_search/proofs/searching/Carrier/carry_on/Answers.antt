@@ -1,6 +1,7 @@
 use Rattle.a429_search.proofs.SearchingFacts.{carried_on, covered_kept, named, then_too, uncut, ways_cover}
 use Rattle.a429_search.specs.Frontier.{AreCovered, IsAmong}
 use Rattle.a429_search.specs.Recorded.{number_of}
+use Rattle.a429_search.proofs.SoundFacts.{add_both, ways_only}
 use Rattle.a429_search.proofs.searching.Carrier.carry_on.Goals as goal
 
 pub returns-then-ways-clause-covers : goal.returns-then-ways-clause-covers
@@ -43,3 +44,20 @@ returns-clause-at c = λ old.
     ways_cover p a c.args.hypothesis.now.standing c.codes.result.now c.number.result c.is_some-has_group.result c.ways-ways.result
     c.codes.ensures.codes c.number.ensures c.ways-ways.ensures.covers in
     c.in_ok-begin.ensures.at (number_of a.start) all.begin_at (c.in_ok-joins.ensures.at (number_of a.start) all.join_at old)
+
+pub returns-then-ways-clause-only : goal.returns-then-ways-clause-only
+returns-then-ways-clause-only c = λ real.
+    let only =
+    ways_only c.args.profile.now c.args.attempt.now c.args.hypothesis.now c.codes.result.now c.number.result c.is_some-has_group.result
+    c.ways-ways.result c.codes.ensures.codes
+    c.number.ensures c.is_some-has_group.ensures real c.ways-ways.ensures.only in
+    c.in_ok-joins.ensures.only only real
+
+pub returns-clause-only : goal.returns-clause-only
+returns-clause-only c = λ real.
+    let only =
+    ways_only c.args.profile.now c.args.attempt.now c.args.hypothesis.now c.codes.result.now c.number.result c.is_some-has_group.result
+    c.ways-ways.result c.codes.ensures.codes
+    c.number.ensures c.is_some-has_group.ensures real c.ways-ways.ensures.only in
+    add_both c.args.profile.now c.args.hypothesis.now c.args.attempt.now c.args.next.now.items c.join.new.next.items c.begin.new.next.items
+    (c.in_ok-joins.ensures.only only real) (c.in_ok-begin.ensures.only only real)
