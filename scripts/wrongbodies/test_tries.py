@@ -112,6 +112,12 @@ can be named from here
 fn a429_word::word::Word::number: no proof: it has errors
 """
 
+GONE_IN_A_LATER_LINE = """\
+./proofs/word/Word/number/Answers.antt:5:24: error: `loop-k-init`: record
+  `Rattle.a429_word.proofs.word.Word.number.Goals.In-Err` has no field `fault`
+fn a429_word::word::Word::number: no proof: it has errors
+"""
+
 
 class Answers(unittest.TestCase):
     def test_an_open_goal_refuses(self):
@@ -126,6 +132,9 @@ class Answers(unittest.TestCase):
 
     def test_a_name_that_is_gone_does_not_refuse(self):
         self.assertFalse(refuses(GONE, "Word::number"))
+
+    def test_a_name_that_is_gone_is_seen_in_a_later_line(self):
+        self.assertFalse(refuses(GONE_IN_A_LATER_LINE, "Word::number"))
 
     def test_an_open_goal_refuses_where_the_answer_to_another_is_gone(self):
         self.assertTrue(refuses(GONE.partition("fn ")[0] + OPEN, "Word::number"))

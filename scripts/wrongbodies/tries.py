@@ -193,7 +193,9 @@ def refuses(said, function):
     if not found:
         return False
     folder = "/".join(found[2].split("::")[1:])
-    errors = re.findall(rf"(?m)^\./proofs/{re.escape(folder)}/(\w+)\.antt\S* error: (.*)$", said)
+    # (a long message goes on in the next lines, which begin with two spaces)
+    errors = re.findall(rf"(?m)^\./proofs/{re.escape(folder)}/(\w+)\.antt\S* error: (.*(?:\n  .*)*)$", said)
+    errors = [(file, " ".join(why.split())) for file, why in errors]
     # (without its invariant every goal of a loop is open)
     if any(file == "Invariants" for file, _ in errors):
         return False
