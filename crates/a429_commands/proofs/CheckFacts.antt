@@ -25,7 +25,7 @@ use Rattle.a429_commands.specs.Recording.{IsReadFault, SaysEntries, read_causes}
 use Rattle.a429_commands.specs.declared.engines.rule.Rule.{Rule}
 use Rattle.a429_commands.specs.declared.engines.rule.Rule.TheVariants as rule
 use Rattle.a429_commands.specs.declared.engines.check.Told.{Told}
-use Rattle.a429_commands.specs.Check.{IsByRule, IsEarliest, IsNotedBy, IsToldBy, IsToldOn, IsToldUnder, IsVerdictBy, TellsVerdict, of_told}
+use Rattle.a429_commands.specs.Check.{IsByRule, IsToldBy, IsToldOn, IsToldUnder, IsVerdictBy, TellsVerdict, of_told}
 use Rattle.a429_commands.proofs.EndsFacts.{ends_as}
 use Rattle.a429_commands.proofs.FaultFacts.{comes_by}
 

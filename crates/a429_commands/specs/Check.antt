@@ -97,10 +97,10 @@ abbrev pub IsEarliest : Contents → List Seen → Verdict → Type 0
 IsEarliest p items (Impossible i reason) = BeginsARun p (take i items)
 IsEarliest p items _ = Unit {0}
 
--- `decide` says by a note where it has not found that the entry is the earliest; after a verdict of `check` there is none
+-- `decide` says by a note where it has not found that the entry is the earliest, and nowhere else; after a verdict of `check` there is none
 abbrev pub IsNotedBy : Rule → Contents → List Seen → Told → Type 0
 IsNotedBy rule.Check p items t = t.has_note ≡ false
-IsNotedBy rule.Decide p items t = t.has_note ≡ false → IsEarliest p items t.verdict
+IsNotedBy rule.Decide p items t = (t.has_note ≡ false → IsEarliest p items t.verdict) × (t.has_note ≡ true → IsImpossibility t.verdict)
 
 abbrev pub IsToldBy : Rule → Contents → List Seen → Told → Type 0
 IsToldBy by_rule p items t = IsVerdictBy by_rule p items t.verdict × IsNotedBy by_rule p items t

@@ -7,6 +7,7 @@ ghost use Rattle.std.specs.Fmt.{decimal};
 ghost use Rattle.a429_word.specs.Tally.{has_failed, unread};
 ghost use Rattle.a429_word.specs.Sheet.{Says, Writes};
 ghost use Rattle.a429_cert.specs.Explained.{items_of};
+ghost use Rattle.a429_explain.specs.Verdict.{IsImpossibility};
 ghost use Rattle.a429_commands.specs.declared.engines.rule.Rule.TheVariants as rules;
 ghost use Rattle.a429_commands.specs.Ends.{EndsWithFile, HasGained, heard, unheard_causes};
 ghost use Rattle.a429_commands.specs.Fault.{ComesBy};
@@ -164,7 +165,8 @@ fn is_earliest(
     entries: &[Entry],
     verdict: &Verdict,
 ) -> Result<bool, OutOfMemory>
-    ensures { result ≡ Ok true → IsEarliest profile.now (items_of entries.now) verdict.now }
+    ensures earliest { result ≡ Ok true → IsEarliest profile.now (items_of entries.now) verdict.now }
+    ensures only { result ≡ Ok false → IsImpossibility verdict.now }
 {
     match verdict {
         Verdict::Impossible { entry, .. } if *entry <= entries.len() => {

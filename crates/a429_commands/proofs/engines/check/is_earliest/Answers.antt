@@ -5,8 +5,8 @@ use Rattle.a429_cert.specs.Explained.{items_of, seen_of}
 use Rattle.a429_commands.specs.Check.{IsEarliest}
 use Rattle.a429_commands.proofs.engines.check.is_earliest.Goals as goal
 
-pub returns-in-Impossible : goal.returns-in-Impossible
-returns-in-Impossible c = λ is.
+pub returns-in-Impossible-clause-earliest : goal.returns-in-Impossible-clause-earliest
+returns-in-Impossible-clause-earliest c = λ is.
     let p = c.args.profile.now in
     let es = c.args.entries.now in
     subst (IsEarliest p (items_of es)) (sym c.in-Impossible.is)
