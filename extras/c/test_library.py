@@ -66,8 +66,8 @@ class Library:
         self.library = ctypes.CDLL(str(path))
 
     def call(self, name, *slices, has_files):
-        """Makes a call. Lists of numbers are lengths."""
-        found, none = Found(), (ctypes.c_uint8 * 1)()
+        """Makes a call, over what an earlier one has found. Lists of numbers are lengths."""
+        found, none = Found(*[7] * 6), (ctypes.c_uint8 * 1)()
         words = []
         for it in slices:
             words += [(ctypes.c_size_t * max(len(it), 1))(*it) if isinstance(it, list) else it, ctypes.c_size_t(len(it))]
@@ -255,7 +255,8 @@ class Answers(LibraryCase):
                         self.assertEqual(held.files, answer.files)
 
     def test_make(self):
-        for files in ([b"a"], [b"abc", bytes(range(256)) * 5], [b"x" * 631, b"y" * 632, b"z" * 633]):
+        # (the last recording has more than a million bytes)
+        for files in ([b"a"], [b"abc", bytes(range(256)) * 5], [b"x" * 631, b"y" * 632, b"z" * 633], [b"z" * 160_000]):
             paths = [self.room / f"{k}.bin" for k in range(len(files))]
             for path, it in zip(paths, files):
                 path.write_bytes(it)
@@ -271,6 +272,11 @@ class Answers(LibraryCase):
                 said = program("show", PROFILE, recording)
                 answer = self.library.show(self.profile, recording.read_bytes())
                 self.assertEqual((answer.text, answer.status), (said.stdout, said.returncode))
+
+    def test_nothing_is_left_of_an_earlier_call(self):
+        library, recording = self.library, RECORDINGS[0].read_bytes()
+        for answer in (library.make(self.profile, [b"ab"]), library.show(self.profile, recording), library.decide(b"", recording)):
+            self.assertEqual((answer.entry, answer.line, answer.reason, answer.files), (0, 0, 0, []))
 
     def test_the_line_of_a_fault_is_that_of_the_program(self):
         profile, recording = self.room / "a.toml", self.room / "a.csv"
