@@ -15,7 +15,7 @@ use Rattle.a429_link.specs.Attempt.{Attempt, IsAttemptAt, asks, attempts_from, f
 use Rattle.a429_link.specs.Assignment.{Assigned, GoOnAssigned, IsSound}
 use Rattle.a429_link.specs.Run.{BeginsARun, IsSubsequenceOf}
 use Rattle.a429_link.specs.WholeBlock.{AreHalf, IsHalfAt, IsHalfForm, IsHalfNext, data_first, data_words}
-use Rattle.a429_link.proofs.AssignedRun.{grown_count, open_assigned, some_attempts}
+use Rattle.a429_link.proofs.AssignedSteps.{grown_count, open_assigned, some_attempts}
 use Rattle.a429_link.proofs.Contradictions.{latest_push, next_item, on}
 use Rattle.a429_link.proofs.Message.{AllParts, Eot, IsRead, Part, Sot, end_message, message_in}
 use Rattle.a429_link.proofs.NumberKept.{sub_all}

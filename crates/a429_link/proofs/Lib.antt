@@ -32,10 +32,12 @@ pub mod DeliveredFiles
 pub mod WholeBlock
 pub mod NumbersCome
 pub mod LatestAttempt
+pub mod NumberStages
 pub mod NumberKept
 pub mod BlockWords
 pub mod Contradictions
 pub mod RunAssigned
+pub mod AssignedSteps
 pub mod AssignedRun
 pub mod PieceAssigned
 pub mod PieceRun

@@ -29,7 +29,7 @@ use Rattle.a429_link.specs.Piece.{BeginsWithRequest, FollowsUnit, IsReachable, a
 use Rattle.a429_link.proofs.AssignedRun.{all_allowed, run_is_assigned}
 use Rattle.a429_link.proofs.Message.{Ack, AllSay, Cts, IsRead, MaySay, Message, Nak, Rts, answers_as, answers_message, block_messages, message_in, message_of, next_message, none_say, with_answer_as, with_answer_message}
 use Rattle.a429_link.proofs.MessageSubsequence.{IsBlockWord}
-use Rattle.a429_link.proofs.NumberKept.{Resting, words_none}
+use Rattle.a429_link.proofs.NumberStages.{Resting, words_none}
 use Rattle.a429_link.proofs.ObserverRefuses.{seeing}
 use Rattle.a429_link.proofs.RunAssigned.{StandsBy, comes_more, run_assigned, sound_now}
 use Rattle.a429_link.proofs.RunCrossing.{Books, HasAccepted, HasAck, IsAck, start_books, step_crosses, takes_last}

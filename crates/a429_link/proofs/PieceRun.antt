@@ -22,8 +22,9 @@ use Rattle.a429_link.specs.Piece.{BeginsWithRequest, FollowsUnit, IsReachable, a
 use Rattle.a429_link.specs.Run.{BeginsARun, IsPartOfARun, IsRun, trace}
 use Rattle.a429_link.specs.Sink.{Number, Quiet, Received, nothing_received, put}
 use Rattle.a429_link.specs.State.{rest, start}
-use Rattle.a429_link.proofs.AssignedRun.{Place, holds_after, in_attempt, is_answered, replay, source_of, to_number}
-use Rattle.a429_link.proofs.AssignedRun.{at as standing}
+use Rattle.a429_link.proofs.AssignedSteps.{Place, holds_after, in_attempt, is_answered, source_of, to_number}
+use Rattle.a429_link.proofs.AssignedRun.{replay}
+use Rattle.a429_link.proofs.AssignedSteps.{at as standing}
 use Rattle.a429_link.proofs.CleanRuns.{Comes, Goes, at, block_goes, block_sent, goes_append, may_say, next_comes, owing, run_append, sent_steps, sound, trace_append}
 use Rattle.a429_link.proofs.Message.{Ack, IsRead, answers_as, answers_message, message_of, word_of}
 use Rattle.a429_link.proofs.NumberFacts.{next_ldu}

@@ -30,7 +30,7 @@ use Rattle.a429_link.proofs.StateConfigs.{Config, acked, block_words_each, clear
 use Rattle.a429_link.proofs.StateHolds.{Current, owed_form, sends, step_holds}
 use Rattle.a429_link.proofs.RunTraces.{IsCts, block_word, no_cts}
 use Rattle.a429_link.proofs.RunCrossing.{Books, HasAck, IsAck, no_ack, one_answer, start_books, step_crosses}
-use Rattle.a429_link.proofs.NumberKept.{Resting, Words, answered_kept, idle_alone, lose_gone, lost_kept, lost_rests, none_there, own_ack, owes_listens, rests_alone, unheard_kept, words_all, words_next, words_none, words_push}
+use Rattle.a429_link.proofs.NumberStages.{Resting, Words, answered_kept, idle_alone, lose_gone, lost_kept, lost_rests, none_there, own_ack, owes_listens, rests_alone, unheard_kept, words_all, words_next, words_none, words_push}
 
 -- ---- attempts, by messages
 

@@ -7,5 +7,6 @@ pub mod PlacesFacts
 pub mod CutterFacts
 pub mod PartsFacts
 pub mod WaitingFacts
+pub mod RerunStates
 pub mod Rerun
 pub mod PartRuns

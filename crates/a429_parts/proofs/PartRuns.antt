@@ -1,10 +1,10 @@
 -- Each part of a run's recording is the recording of a run.
-use Rattle.std.proofs.Common.{◌≡◌, ◌≢◌, ℕ, zero, suc, ◌≤◌, ◌<◌, Bool, true, false, cond, eqb, ◌&&◌, not, List, [], ◌∷◌, ◌++◌, length, take, drop, Option, Some, None, slice_get, refl, sym, ap, ◌∙◌, subst, inl, inr, arith, append_assoc}
+use Rattle.std.proofs.Common.{◌≡◌, ℕ, zero, suc, ◌<◌, Bool, true, false, cond, ◌&&◌, not, List, [], ◌∷◌, ◌++◌, length, take, drop, Option, Some, None, slice_get, refl, sym, ap, ◌∙◌, subst, inl, inr, arith}
 use Rattle.std.proofs.lemmas.List.{take-append-drop}
 use Rattle.a429_word.specs.declared.bus.Bus.{Bus}
 use Rattle.a429_word.specs.declared.bus.Bus.TheVariants as bus
 use Rattle.a429_profile.specs.declared.codes.Codes.{Codes}
-use Rattle.a429_profile.specs.Profile.{Contents, IsProfile}
+use Rattle.a429_profile.specs.Profile.{Contents}
 use Rattle.a429_ldu.specs.declared.forms.Form.{Form}
 use Rattle.a429_ldu.specs.declared.forms.Form.TheVariants as form
 use Rattle.a429_ldu.specs.Form.{form_of}
@@ -18,12 +18,12 @@ use Rattle.a429_link.specs.declared.state.SourceState.TheVariants.{Waiting}
 use Rattle.a429_link.specs.declared.step.Step.{Step}
 use Rattle.a429_link.specs.declared.step.Step.TheVariants.{Answered, FreeSeen, GiveUp, Load, LoseAnswer, Sent, SentLost, Silent, SinkTakes, TakeAnswer, TimeOut}
 use Rattle.a429_link.specs.Observer.{Observer, Allows, AllowsNext, IsRefused, at_first, observed, sees, sink_of}
-use Rattle.a429_link.specs.Run.{BeginsARun, IsRun, RunOf, delivered, end_of, offers, settles, trace, with_label}
-use Rattle.a429_link.specs.Sink.{Block, Number, Owes, OwesAck, Quiet, Received, Sink, SinkPhase, accepts, in_phase, is_same, number_of, put, received_for, with_received, nothing_received}
+use Rattle.a429_link.specs.Run.{IsRun, RunOf, end_of, offers, settles, trace, with_label}
+use Rattle.a429_link.specs.Sink.{Block, Number, Owes, OwesAck, Quiet, Received, Sink, SinkPhase, in_phase, is_same, number_of, put, received_for, with_received, nothing_received}
 use Rattle.a429_link.specs.State.{State, start}
 use Rattle.a429_link.specs.Step.{Can, after, label}
 use Rattle.a429_link.specs.Trace.{files_of, sink_after, sink_at_first}
-use Rattle.a429_link.proofs.CleanRuns.{end_append, run_append}
+use Rattle.a429_link.proofs.CleanRuns.{end_append, run_append, trace_append}
 use Rattle.a429_link.proofs.Message.{Ack, Cts, Eot, IsRead, MaySay, Message, Nak, Part, Rts, Sot, answers_as, message_in, message_of}
 use Rattle.a429_link.proofs.MessageRead.{is_read}
 use Rattle.a429_link.proofs.NumberFacts.{number_from}
@@ -37,15 +37,8 @@ use Rattle.a429_link.proofs.TraceFiles.{files_delivered, observed_sink}
 use Rattle.a429_parts.specs.Alone.{IsRunAlone}
 use Rattle.a429_parts.specs.Cutting.{Course, Follows, Lost, CourseAfter, GoesOn, IsPlace, LeavesBy, LeavesUnit, MayCut, crossing, crossing_of}
 use Rattle.a429_parts.specs.Kept.{HasRun}
-use Rattle.a429_parts.proofs.Rerun.{Begun, OtherBy, OtherStart, Rerun, crossed, crossed_begun, state}
-
-trace_append : (xs ys : List Step) → trace (xs ++ ys) ≡ trace xs ++ trace ys
-trace_append [] ys = refl
-trace_append (a ∷ xs) ys = ap (with_label (label a)) (trace_append xs ys) ∙ by (label a)
-  where
-    by : (l : Option Seen) → with_label l (trace xs ++ trace ys) ≡ with_label l (trace xs) ++ trace ys
-    by None = refl
-    by (Some i) = refl
+use Rattle.a429_parts.proofs.RerunStates.{crossed, state}
+use Rattle.a429_parts.proofs.Rerun.{Begun, OtherBy, OtherStart, crossed_begun}
 
 -- ---- a file crosses
 

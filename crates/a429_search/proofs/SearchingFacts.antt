@@ -11,7 +11,7 @@ use Rattle.a429_link.specs.Assignment.{Assigned, IsAssignable, IsNext, IsSound}
 use Rattle.a429_link.specs.Attempt.{attempts, fresh, latest}
 use Rattle.a429_link.specs.Attempt as link
 use Rattle.a429_link.specs.Run.{BeginsARun}
-use Rattle.a429_link.proofs.AssignedRun.{some_attempts}
+use Rattle.a429_link.proofs.AssignedSteps.{some_attempts}
 use Rattle.a429_link.specs.Number.{next_number, number_after}
 use Rattle.a429_search.specs.declared.attempts.Attempt.{Attempt}
 use Rattle.a429_search.specs.declared.attempts.StartWord.{StartWord}
@@ -280,7 +280,7 @@ start_covers p a hyps (h, is, known, gave, since, started, group) now ok t (none
         (ldu, omega (arith, gave, since))
 
 -- of an attempt that is known by its first and its last word
-attempt_in : (p : Contents) (items : List Seen) (from to : ℕ) (o : Option Attempt) (a : Attempt)
+pub attempt_in : (p : Contents) (items : List Seen) (from to : ℕ) (o : Option Attempt) (a : Attempt)
     → o ≡ Some a → IfSome o (IsAttemptFrom p items from to) → IsAttemptFrom p items from to a
 attempt_in p items from to o a is h = subst (λ (q : Option Attempt). IfSome q (IsAttemptFrom p items from to)) is h
 
