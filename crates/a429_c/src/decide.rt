@@ -54,7 +54,7 @@ fn judged_under(alloc: Global, profile: &Profile, recording: &[u8]) -> Result<Ve
 {
     let entries = entries_of(alloc, recording)?;
     match decide(alloc, profile, entries.as_slice()) {
-        Ok(verdict) => Ok(verdict),
+        Ok(decision) => Ok(decision.verdict),
         Err(_) => Err(Fault::Memory),
     }
 }

@@ -10,7 +10,8 @@ use Rattle.a429_profile.specs.Profile.{Contents}
 use Rattle.a429_cert.specs.declared.fault.OutOfMemory.{OutOfMemory}
 use Rattle.a429_explain.specs.declared.verdict.Verdict.{Verdict}
 use Rattle.a429_explain.specs.declared.verdict.Reason.{Reason}
-use Rattle.a429_search.specs.Deciding.{IsImpossibleBy, IsImpossibleUpTo, IsLeftOpen, IsOfCheck, IsReasonAt}
+use Rattle.a429_search.specs.declared.deciding.Decision.{Decision}
+use Rattle.a429_search.specs.Deciding.{IsExact, IsImpossibleBy, IsImpossibleUpTo, IsOfCheck, IsReasonAt}
 use Rattle.a429_explain.specs.Verdict.{IsFirst, IsSoundVerdict, IsAccepted, IsOfLeastVersion, IsImpossible, IsDoubted, HasNoForm, IsImpossibility, IsExplanation}
 use Rattle.a429_explain.specs.WithoutLoss.{IsWithoutLoss}
 use Rattle.a429_commands.specs.declared.fault.RunFault.{RunFault}
@@ -30,12 +31,12 @@ use Rattle.a429_commands.proofs.EndsFacts.{ends_as}
 use Rattle.a429_commands.proofs.FaultFacts.{comes_by}
 
 -- what the library's call says of its verdict, as one
-pub found : (by_rule : Rule) (p : Contents) (items : List Seen) (r : Result Verdict OutOfMemory)
-    → IfOk r (IsSoundVerdict p items) → IfOk r (IsAccepted p items) → IfOk r (IsOfLeastVersion p items) → IfOk r (IsDoubted p items)
-    → IfOk r (IsByRule by_rule p items)
-    → (HasNoForm p.codes items → IfOk r IsImpossibility) → (IsWithoutLoss p items → IfOk r IsExplanation)
-    → IfOk r (IsVerdictBy by_rule p items)
-found by_rule p items (Ok v) sound accepted version doubted first no_form without_loss =
+pub found : {X : Type 0} (by_rule : Rule) (p : Contents) (items : List Seen) (verdict : X → Verdict) (r : Result X OutOfMemory)
+    → IfOk r (λ x. IsSoundVerdict p items (verdict x)) → IfOk r (λ x. IsAccepted p items (verdict x))
+    → IfOk r (λ x. IsOfLeastVersion p items (verdict x)) → IfOk r (λ x. IsDoubted p items (verdict x))
+    → IfOk r (λ x. IsByRule by_rule p items (verdict x)) → (HasNoForm p.codes items → IfOk r (λ x. IsImpossibility (verdict x)))
+    → (IsWithoutLoss p items → IfOk r (λ x. IsExplanation (verdict x))) → IfOk r (λ x. IsVerdictBy by_rule p items (verdict x))
+found by_rule p items verdict (Ok x) sound accepted version doubted first no_form without_loss =
     record {
       sound = sound;
       accepted = accepted;
@@ -45,7 +46,7 @@ found by_rule p items (Ok v) sound accepted version doubted first no_form withou
       no_form = no_form;
       without_loss = without_loss;
     }
-found by_rule p items (Err e) sound accepted version doubted first no_form without_loss = tt
+found by_rule p items verdict (Err e) sound accepted version doubted first no_form without_loss = tt
 
 -- by the rule of `check`, and by that of `decide`
 pub checked : (p : Contents) (items : List Seen) (r : Result Verdict OutOfMemory)
@@ -53,12 +54,13 @@ pub checked : (p : Contents) (items : List Seen) (r : Result Verdict OutOfMemory
 checked p items (Ok v) first impossible = (first, impossible)
 checked p items (Err e) first impossible = tt
 
-pub decided : (p : Contents) (items : List Seen) (r : Result Verdict OutOfMemory)
-    → IfOk r (IsOfCheck p items) → IfOk r (IsLeftOpen p items) → IfOk r (IsImpossibleBy p items)
-    → ((i : ℕ) (reason : Reason) → IsReasonAt p items i reason → IfOk r (IsImpossibleUpTo i)) → IfOk r (IsByRule rule.Decide p items)
-decided p items (Ok v) of_check left_open impossible first =
-    record { of_check = of_check; left_open = left_open; impossible = impossible; first = first }
-decided p items (Err e) of_check left_open impossible first = tt
+pub decided : (p : Contents) (items : List Seen) (r : Result Decision OutOfMemory)
+    → IfOk r (IsExact p items) → IfOk r (λ d. IsOfCheck p items d.verdict) → IfOk r (λ d. IsImpossibleBy p items d.verdict)
+    → ((i : ℕ) (reason : Reason) → IsReasonAt p items i reason → IfOk r (λ d. IsImpossibleUpTo i d.verdict))
+    → IfOk r (λ d. IsByRule rule.Decide p items d.verdict)
+decided p items (Ok d) exact of_check impossible first =
+    record { of_check = of_check; is_cut = d.is_cut; exact = exact; impossible = impossible; first = first }
+decided p items (Err e) exact of_check impossible first = tt
 
 -- ---- what is written
 

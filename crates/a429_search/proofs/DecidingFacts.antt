@@ -1,7 +1,8 @@
 -- Verdicts that are given before a search.
 use Rattle.std.proofs.lemmas.Bool.{cases_order}
+use Rattle.std.proofs.lemmas.List.{take-map}
 use Rattle.std.proofs.lemmas.Option.{slice_get_past, slice_get_within}
-use Rattle.std.proofs.Common.{◌≡◌, ◌⊎◌, ℕ, zero, suc, ◌+◌, ◌<◌, ◌≤◌, List, [], ◌∷◌, ◌++◌, length, take, drop, Option, Some, None, IfSome, unwrap_or, slice_get, refl, sym, ap, ◌∙◌, subst, inl, inr, append-nil, arith}
+use Rattle.std.proofs.Common.{◌≡◌, ◌⊎◌, ℕ, zero, suc, ◌+◌, ◌<◌, ◌≤◌, Bool, List, [], ◌∷◌, ◌++◌, length, take, drop, Option, Some, None, IfSome, unwrap_or, slice_get, refl, sym, ap, ◌∙◌, subst, inl, inr, append-nil, arith}
 use Rattle.a429_profile.specs.Profile.{Contents}
 use Rattle.a429_profile.specs.declared.codes.Codes.{Codes}
 use Rattle.a429_ldu.specs.declared.forms.Form.TheVariants.{Rts, Cts, Ack, Nak, Sot, Part, Eot}
@@ -16,7 +17,7 @@ use Rattle.a429_link.specs.Observer.{AllowsNext, at_first, observed}
 use Rattle.a429_link.specs.Run.{BeginsARun}
 use Rattle.a429_link.specs.WholeBlock.{ComesNext, EndsBad, IsHalfNext}
 use Rattle.a429_record.specs.declared.entry.Entry.{Entry}
-use Rattle.a429_cert.specs.Explained.{AreInSomeRun, IsExplained, items_of}
+use Rattle.a429_cert.specs.Explained.{AreInSomeRun, IsExplained, items_of, seen_of}
 use Rattle.a429_cert.proofs.ExplainedFacts.{in_some_run}
 use Rattle.a429_explain.specs.declared.verdict.Reason.{Reason}
 use Rattle.a429_explain.specs.declared.verdict.Reason.TheVariants.{NoForm, NotGranted, WrongAnswer, BadBlock, WrongNumber, OtherBlock, NoRun}
@@ -30,7 +31,7 @@ use Rattle.a429_explain.specs.Walk.{AreAllowedUpTo, FitsAt, FitsSight}
 use Rattle.a429_search.specs.declared.contradiction.Contradiction.{Contradiction}
 use Rattle.a429_search.specs.Contradiction.{ContradictsAt, HasNoContradiction, HasNoneBefore, HasNoRun}
 use Rattle.a429_search.proofs.ContradictionFacts.{none_before}
-use Rattle.a429_search.specs.Deciding.{HasDoubt, HasNoReason, IsFirstReasonAt, IsImpossibleBy, IsNoRun, IsReasonAt}
+use Rattle.a429_search.specs.Deciding.{HasDoubt, HasNoReason, IsFirstReasonAt, IsImpossibleBy, IsNoRun, IsNoRunUnlessCut, IsReasonAt, IsSearched}
 
 -- ---- the first words of a recording
 
@@ -194,20 +195,27 @@ found_first p items n c m is =
       }
     ]
 
-pub same_length : (es : List Entry) → length (items_of es) ≡ length es
-same_length [] = refl
-same_length (e ∷ es) = ap suc (same_length es)
+-- words that begin so among the first n
+pub begins_within : (p : Contents) (es : List Entry) (n k : ℕ)
+    → k ≤ n → BeginsARun p (take k (items_of (take n es))) → BeginsARun p (take k (items_of es))
+begins_within p es n k l =
+    subst (BeginsARun p) (ap (take k) (sym (take-map seen_of n es)) ∙ take_first k n (items_of es) l)
 
--- one that is found before a contradiction
-pub no_run_before : (p : Contents) (items : List Seen) (n e : ℕ) → n ≤ length items → HasNoContradiction p items n
-    → e < length (take n items) → HasNoRun p (take n items) e → IsNoRun p items (record { entry = e; reason = NoRun })
-no_run_before p items n e m none l no_run =
-    let within : e < n = omega (arith, l, take_length n items m) in
-    record {
-      inside = omega arith;
-      how = inr (refl, λ k j. none k (omega (arith, j, within)));
-      no_run = λ run. no_run (subst (λ (xs : List Seen). BeginsARun p xs) (sym (take_first (e + 1) n items (omega arith))) run);
-    }
+-- one that a search finds before a contradiction
+pub no_run_before : (p : Contents) (es : List Entry) (n : ℕ) (c : Contradiction) (is_cut : Bool)
+    → n ≤ length (items_of es) → HasNoContradiction p (items_of es) n → IsSearched p (items_of (take n es)) is_cut (Some c)
+    → IsNoRunUnlessCut p (items_of es) c is_cut
+no_run_before p es n c is_cut m none (inside, why, no_run, begins) =
+    let within : c.entry < n = omega (arith, inside, ap length (take-map seen_of n es), take_length n (items_of es) m) in (
+      record {
+        inside = omega arith;
+        how = inr (why, λ k j. none k (omega (arith, j, within)));
+        no_run =
+            λ run. no_run (subst (BeginsARun p) (sym (ap (take (c.entry + 1)) (sym (take-map seen_of n es))
+            ∙ take_first (c.entry + 1) n (items_of es) (omega arith))) run);
+      },
+      λ uncut. begins_within p es n c.entry (omega arith) (begins uncut),
+    )
 
 pub less_allowed : (p : Contents) (items : List Seen) (n k : ℕ) → k ≤ n → AreAllowedUpTo p items n → AreAllowedUpTo p items k
 less_allowed p items n k l may j m = may j (omega arith)

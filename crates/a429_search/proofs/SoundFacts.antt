@@ -20,7 +20,7 @@ use Rattle.a429_search.specs.declared.searching.Hypothesis.{Hypothesis}
 use Rattle.a429_search.specs.declared.standing.Standing.{Standing}
 use Rattle.a429_search.specs.declared.standing.Ways.{Ways}
 use Rattle.a429_search.specs.Block.{MayBeUnitOf}
-use Rattle.a429_search.specs.Frontier.{AddCarried, AreCarried, AreHeard, AreSame, CanSend, FitsGroup, IsCarriedFrom, IsHeardBy, IsReal, IsStart, LeadsBy, SomeSays, TakesOn}
+use Rattle.a429_search.specs.Frontier.{AddCarried, AreCarried, AreHeard, AreSame, CanSend, FitsGroup, FitsSome, IsCarriedFrom, IsHeardBy, IsReal, IsStart, LeadsBy, SomeSays, TakesOn}
 use Rattle.a429_search.specs.Recorded.{IsAttemptFrom, MayBeOf, MayBeTo, number_of}
 use Rattle.a429_search.specs.Standing.{CanBe, CanComeTo, CanStand, IsInRange, IsNamed, IsRegular, MakeNothingUp, all_give_ups, past}
 use Rattle.a429_search.proofs.FrontierFacts.{CanReach}
@@ -421,6 +421,32 @@ sure_begins p good law items from hyps k h allowed all at (ok, sure) =
     subst (AreAllowed p at_first) (take_all (length items) items (omega arith))
     (allowed_first p items (length items) (omega arith) allowed) in
     (law items good).1 (may, sure_assignable p items (attempts p (take from items)) ok hyps k h (ap (attempts p) (sym whole)) at sure)
+
+some_first : (hyps : List Hypothesis) → (hyps ≡ [] → ⊥) → (h : Hypothesis) × (slice_get hyps 0 ≡ Some h)
+some_first [] some = absurd (some refl)
+some_first (h ∷ hyps) some = (h, refl)
+
+-- where a hypothesis is left of the first items, some run's words begin with them
+begins_first : (p : Contents)
+    → IsProfile p → ((these : List Seen) → IsProfile p → BeginsARun p these ↔ (AreAllowed p at_first these × IsAssignable p these))
+    → (items : List Seen) (n : ℕ) (hyps : List Hypothesis) → AreAllowedUpTo p items (length items) → n ≤ length items → (hyps ≡ [] → ⊥)
+    → AreSureOf p items n hyps → BeginsARun p (take n items)
+begins_first p good law items n hyps allowed inside some (ok, sure) =
+    let h = some_first hyps some in
+    let may = allowed_first p items n inside (λ k less. allowed k (omega (arith, less, inside))) in
+    (law (take n items) good).1 (may, sure_assignable p (take n items) (attempts p (take n items)) ok hyps 0 h.0 refl h.1 sure)
+
+-- up to before a word, where the attempt that it is of fits one of them so far
+pub sure_before : (p : Contents)
+    → IsProfile p → ((these : List Seen) → IsProfile p → BeginsARun p these ↔ (AreAllowed p at_first these × IsAssignable p these))
+    → (items : List Seen) (from to : ℕ) (hyps : List Hypothesis) → AreAllowedUpTo p items (length items) → to ≤ length items
+    → AreSureOf p items from hyps → FitsSome p items hyps from to → BeginsARun p (take to items)
+sure_before p good law items from to hyps allowed inside sure (inl (same, some)) =
+    begins_first p good law items to hyps allowed inside some (subst (λ (n : ℕ). AreSureOf p items n hyps) same sure)
+sure_before p good law items from to hyps allowed inside sure (inr (a, is, next, carried, some)) =
+    begins_first p good law items to next allowed inside some
+    (sure_next p good items from to hyps next (Some a) a p allowed inside refl refl is sure
+    (record { next = next; carried = carried; heard = next; after = inl refl; same = same_self next }))
 
 pub never_none : (o : Option ℕ) (k : ℕ) → option_or o (Some k) ≡ None → ⊥
 never_none None k e = absurd (cc e)

@@ -1,7 +1,8 @@
 -- Which verdict `decide` gives (profile).
-use Rattle.std.specs.Prelude.{◌≡◌, ◌+◌, ◌≤◌, ◌<◌, ◌⊎◌, ℕ, IfSome, List, length, slice_get}
+use Rattle.std.specs.Prelude.{◌≡◌, ◌+◌, ◌≤◌, ◌<◌, ◌⊎◌, ℕ, Bool, true, false, IfSome, List, Option, None, Some, length, slice_get, take}
 use Rattle.a429_profile.specs.Profile.{Contents}
 use Rattle.a429_link.specs.declared.seen.Seen.{Seen}
+use Rattle.a429_cert.specs.Explained.{IsExplained}
 use Rattle.a429_link.specs.Observer.{IsRefused}
 use Rattle.a429_link.specs.Run.{BeginsARun}
 use Rattle.a429_explain.specs.declared.verdict.Reason.{Reason}
@@ -10,12 +11,17 @@ use Rattle.a429_explain.specs.declared.verdict.Verdict.{Verdict}
 use Rattle.a429_explain.specs.declared.verdict.Verdict.TheVariants.{Explained, Impossible, Unexplained}
 use Rattle.a429_explain.specs.declared.verdict.Doubt.{Doubt}
 use Rattle.a429_explain.specs.declared.verdict.Doubt.TheVariants.{NotReplayed, OutOfSteps}
+use Rattle.a429_explain.specs.Explanation.{IsExplanationOf}
 use Rattle.a429_explain.specs.Verdict.{IsFirst}
 use Rattle.a429_explain.specs.Walk.{AreAllowedUpTo, FitsAt}
 use Rattle.a429_explain.specs.Guess.{IsGuess}
 use Rattle.a429_search.specs.declared.contradiction.Contradiction.{Contradiction}
 use Rattle.a429_search.specs.declared.deciding.Judged.{Judged}
 use Rattle.a429_search.specs.declared.deciding.Judged.TheVariants as judged
+use Rattle.a429_search.specs.declared.deciding.Before.{Before}
+use Rattle.a429_search.specs.declared.deciding.Decision.{Decision}
+use Rattle.a429_search.specs.declared.deciding.Written.{Written}
+use Rattle.a429_search.specs.declared.deciding.Written.TheVariants as written
 use Rattle.a429_search.specs.Frontier.{IsSureUnless}
 use Rattle.a429_search.specs.Contradiction.{ContradictsAt, HasNoContradiction, HasNoneBefore, HasNoRun, IsFirstContradiction}
 
@@ -44,11 +50,42 @@ pub record IsNoRun (p : Contents) (items : List Seen) (c : Contradiction) : Type
   pub how : IsFirstContradiction p items c ⊎ ((c.reason ≡ NoRun) × HasNoContradiction p items (c.entry + 1))
   pub no_run : HasNoRun p items c.entry
 
+-- where the search was not cut short, some run's trace begins with the first n items
+abbrev pub BeginsUnlessCut : Contents → List Seen → ℕ → Bool → Type 0
+BeginsUnlessCut p items n is_cut = is_cut ≡ false → BeginsARun p (take n items)
+
+-- no run's trace begins with the words up to its entry; where the search was not cut short, some run's trace begins with those before it
+abbrev pub IsNoRunUnlessCut : Contents → List Seen → Contradiction → Bool → Type 0
+IsNoRunUnlessCut p items c is_cut = IsNoRun p items c × BeginsUnlessCut p items c.entry is_cut
+
 -- what is found of items that are allowed
 abbrev pub IsJudged : Contents → List Seen → Judged → Type 0
-IsJudged p items (judged.NoRun c) = IsNoRun p items c
+IsJudged p items (judged.NoRun c is_cut) = IsNoRunUnlessCut p items c is_cut
 IsJudged p items (judged.Guessed guess unsure_at) = IsGuess p items guess × HasNoContradiction p items (length items) × IsSureUnless p items unsure_at
 IsJudged p items (judged.CutShort at) = IfSome at (λ i. i < length items) × HasNoContradiction p items (length items)
+
+-- the same, with the run that is guessed written down
+abbrev pub IsWritten : Contents → List Seen → Written → Type 0
+IsWritten p items (written.NoRun c is_cut) = IsNoRunUnlessCut p items c is_cut
+IsWritten p items (written.Run e) = IsExplanationOf p items e × HasNoContradiction p items (length items)
+IsWritten p items (written.Begun i) = (i < length items) × BeginsARun p items × HasNoContradiction p items (length items)
+IsWritten p items (written.CutShort at) = IfSome at (λ i. i < length items) × HasNoContradiction p items (length items)
+
+-- what is found of the items before one that is refused
+abbrev pub IsFoundBefore : Contents → List Seen → Bool → Option Contradiction → Type 0
+IsFoundBefore p items is_cut (Some c) = IsNoRunUnlessCut p items c is_cut
+IsFoundBefore p items is_cut None = HasNoContradiction p items (length items) × (is_cut ≡ false → BeginsARun p items)
+
+abbrev pub IsLookedBefore : Contents → List Seen → Before → Type 0
+IsLookedBefore p items b = IsFoundBefore p items b.is_cut b.found
+
+-- what a search alone finds of items
+abbrev pub IsSearched : Contents → List Seen → Bool → Option Contradiction → Type 0
+IsSearched p items is_cut (Some c) = (c.entry < length items) × (c.reason ≡ NoRun) × HasNoRun p items c.entry × BeginsUnlessCut p items c.entry is_cut
+IsSearched p items is_cut None = is_cut ≡ false → BeginsARun p items
+
+abbrev pub IsSearchedBefore : Contents → List Seen → Before → Type 0
+IsSearchedBefore p items b = IsSearched p items b.is_cut b.found
 
 -- the verdict says that no run's trace begins with the words up to item i, or with fewer
 abbrev pub IsImpossibleUpTo : ℕ → Verdict → Type 0
@@ -67,9 +104,15 @@ IsOfCheck p items (Explained certificate files) = IsFirst p items (Explained cer
 IsOfCheck p items (Impossible i reason) = Unit {0}
 IsOfCheck p items (Unexplained i doubt) = HasDoubt p items
 
--- why it is neither: the search was cut short; or the steps that it guessed cannot be made, and some run's trace begins with these words
-abbrev pub IsLeftOpen : Contents → List Seen → Verdict → Type 0
-IsLeftOpen p items (Unexplained i OutOfSteps) = Unit {0}
-IsLeftOpen p items (Unexplained i NotReplayed) = BeginsARun p items
-IsLeftOpen p items (Unexplained i doubt) = ⊥
-IsLeftOpen p items _ = Unit {0}
+-- a yes, with a certificate that explains these words; or an item such that no run's trace begins with the words up to it, and some run's
+-- trace with those before it, unless the search was cut short; or it was cut short; or some run's trace begins with all these words
+abbrev pub IsExactly : Contents → List Seen → Bool → Verdict → Type 0
+IsExactly p items is_cut (Explained certificate files) = IsExplained p certificate items files
+IsExactly p items is_cut (Impossible i reason) = (i < length items) × HasNoRun p items i × (is_cut ≡ false → BeginsARun p (take i items))
+IsExactly p items is_cut (Unexplained i OutOfSteps) = is_cut ≡ true
+IsExactly p items is_cut (Unexplained i NotReplayed) = BeginsARun p items
+IsExactly p items is_cut (Unexplained i doubt) = ⊥
+
+-- so the verdict is, by whether its search was cut short
+abbrev pub IsExact : Contents → List Seen → Decision → Type 0
+IsExact p items d = IsExactly p items d.is_cut d.verdict

@@ -1,5 +1,5 @@
 -- What a source may have done up to an attempt, as hypotheses that are carried from one attempt to the next (profile).
-use Rattle.std.specs.Prelude.{◌≡◌, ◌<◌, ◌≤◌, ◌⊎◌, ℕ, Bool, true, false, List, [], ◌∷◌, Option, Some, None, IfSome, is_some, length, slice_get}
+use Rattle.std.specs.Prelude.{◌≡◌, ◌<◌, ◌≤◌, ◌⊎◌, ℕ, Bool, true, false, List, [], ◌∷◌, Option, Some, None, IfSome, is_some, length, slice_get, take}
 use Rattle.a429_profile.specs.Profile.{Contents}
 use Rattle.a429_ldu.specs.Ldu.{LduValue}
 use Rattle.a429_link.specs.Assignment.{Assigned, GivesUp, IsNext, IsSound, LeavesFor}
@@ -112,6 +112,11 @@ pub record IsCarried (p : Contents) (hyps : List Hypothesis) (a : Attempt) (x : 
 abbrev pub AreCarried : Contents → List Hypothesis → Attempt → List Hypothesis → Type 0
 AreCarried p hyps a next = (k : ℕ) (x : Hypothesis) → slice_get next k ≡ Some x → IsCarried p hyps a x
 
+-- the last attempt of the first `to` items, whose request is item `from`, is one to which some of the hypotheses can be carried on; or it
+-- has no item yet
+abbrev pub FitsSome : Contents → List Seen → List Hypothesis → ℕ → ℕ → Type 0
+FitsSome p items hyps from to = ((from ≡ to) × (hyps ≡ [] → ⊥)) ⊎ ((a : Attempt) × IsAttemptFrom p items from to a × (next : List Hypothesis) × (AreReal p hyps → AreCarried p hyps a next) × (next ≡ [] → ⊥))
+
 -- one of the hypotheses, which has a group, says this
 pub record SomeSays (p : Contents) (hyps : List Hypothesis) (t : Assigned) : Type 0 where
   pub place : ℕ
@@ -147,8 +152,8 @@ pub record IsSureUnless (p : Contents) (items : List Seen) (unsure_at : Option �
   pub sure : unsure_at ≡ None → BeginsARun p items
 
 -- what a search answers: what is guessed of the run, and from where on it is not sure that there is one; or an entry with which no run's words
--- begin; or one at which it was cut short
+-- begin, where it was not cut short the first such entry; or one at which it was cut short
 abbrev pub IsFound : HeardValue → Found → Type 0
 IsFound d (found.Run guess unsure_at) = IsGuess d.profile d.items guess × IsSureUnless d.profile d.items unsure_at
-IsFound d (found.NoRun entry) = (entry < length d.items) × HasNoRun d.profile d.items entry
+IsFound d (found.NoRun entry is_cut) = (entry < length d.items) × HasNoRun d.profile d.items entry × (is_cut ≡ false → BeginsARun d.profile (take entry d.items))
 IsFound d (found.CutShort entry) = IfSome entry (λ i. i < length d.items)

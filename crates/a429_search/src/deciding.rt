@@ -1,29 +1,40 @@
 //! The decision on a recording: the check, then what its words contradict, and where no certificate is known a search for a run, or for
 //! the first word at which no run goes on.
 
-ghost use Rattle.std.specs.Prelude.{◌≡◌, ◌<◌, ℕ, true, Ok, None, IfOk, IfSome, length};
+ghost use Rattle.std.specs.Prelude.{◌≡◌, ◌<◌, ℕ, true, false, Ok, IfOk, length};
 ghost use Rattle.a429_cert.specs.Explained.{items_of};
 ghost use Rattle.a429_explain.specs.Verdict.{IsSoundVerdict, IsOfSomeRun, IsAccepted, IsOfLeastVersion, IsDoubted, HasNoForm, IsImpossibility, IsExplanation};
 ghost use Rattle.a429_explain.specs.Walk.{AreAllowedUpTo};
 ghost use Rattle.a429_explain.specs.WithoutLoss.{IsWithoutLoss};
 ghost use Rattle.a429_link.specs.Run.{BeginsARun};
-ghost use Rattle.a429_search.specs.Contradiction.{HasNoContradiction, HasNoRun};
-ghost use Rattle.a429_search.specs.Deciding.{IsImpossibleBy, IsImpossibleUpTo, IsJudged, IsLeftOpen, IsNoRun, IsOfCheck, IsReasonAt};
+ghost use Rattle.a429_search.specs.Deciding.{IsExact, IsImpossibleBy, IsImpossibleUpTo, IsJudged, IsLookedBefore, IsOfCheck, IsReasonAt, IsSearchedBefore, IsWritten};
 
 use crate::contradiction::{Contradiction, first_contradiction, what_contradicts_has_no_run};
 use crate::searching::{Found, search_for_run};
 use a429_cert::OutOfMemory;
 use a429_explain::walk::walk;
-use a429_explain::{Doubt, Guess, Reason, Refusal, Verdict, check, explain_by};
+use a429_explain::{Doubt, Explanation, Guess, Reason, Refusal, Verdict, check, explain_by};
 use a429_profile::Profile;
 use a429_record::Entry;
 use std::alloc::Global;
 
+/// What `decide` says of a recording.
+#[derive(Drop)]
+pub struct Decision {
+    pub verdict: Verdict,
+    /// The search for a run was cut short. Only then the doubt is `OutOfSteps`, and only then an entry before one that is impossible may
+    /// be so, too.
+    pub is_cut: bool,
+}
+
 // What is found of words that are allowed.
 #[derive(Drop)]
 enum Judged {
-    // No run's words begin with those up to this entry.
-    NoRun(Contradiction),
+    // No run's words begin with those up to this entry. Where the search was not cut short, some run's words begin with those before it.
+    NoRun {
+        found: Contradiction,
+        is_cut: bool,
+    },
     // What is guessed of a run, and from where on it is not sure that there is one.
     Guessed {
         guess: Guess,
@@ -33,71 +44,86 @@ enum Judged {
     CutShort(Option<usize>),
 }
 
+// What is found of words that are allowed, once the run that was guessed is written down.
+#[derive(Drop)]
+enum Written {
+    NoRun { found: Contradiction, is_cut: bool },
+    Run(Explanation),
+    // Some run's words begin with these, and the steps that were guessed cannot be made at this entry.
+    Begun(usize),
+    CutShort(Option<usize>),
+}
+
+// What is found before an entry: one with which no run goes on, if there is one. Where the search was not cut short, some run's words begin
+// with those before that entry, or, without one, with all.
+#[derive(Clone, Copy)]
+struct Before {
+    found: Option<Contradiction>,
+    is_cut: bool,
+}
+
 /// The verdict on a recording, under the profile of its bench: that of `check`, where it explains the recording. Else the
 /// recording is impossible from the first word on that those before it do not allow, or that contradicts them, by the
 /// first of `BadBlock`, `WrongNumber` and `OtherBlock` that holds; or from an earlier word on, by `NoRun`, at which a search finds that
 /// no run goes on. Where there is no such word, the certificate of a run that the search finds explains the recording. Else the
 /// doubt is `OutOfSteps`, at the request of an attempt: the one at which the search was cut short, or the first after which it was no longer
 /// sure; or `NotReplayed`, where some run's words begin so, at the entry at which the steps that the search guessed cannot be made.
-pub fn decide(alloc: Global, profile: &Profile, entries: &[Entry]) -> Result<Verdict, OutOfMemory>
-    ensures explained { IfOk result (λ v. IsSoundVerdict profile.now (items_of entries.now) v) }
-    ensures some_run { IfOk result (λ v. IsOfSomeRun profile.now (items_of entries.now) v) }
-    ensures accepted { IfOk result (λ v. IsAccepted profile.now (items_of entries.now) v) }
-    ensures version { IfOk result (λ v. IsOfLeastVersion profile.now (items_of entries.now) v) }
-    ensures impossible { IfOk result (λ v. IsImpossibleBy profile.now (items_of entries.now) v) }
-    ensures first { (i : ℕ) (reason : Reason) → IsReasonAt profile.now (items_of entries.now) i reason → IfOk result (IsImpossibleUpTo i) }
-    ensures left_open { IfOk result (λ v. IsLeftOpen profile.now (items_of entries.now) v) }
-    ensures doubted { IfOk result (λ v. IsDoubted profile.now (items_of entries.now) v) }
-    ensures of_check { IfOk result (λ v. IsOfCheck profile.now (items_of entries.now) v) }
-    ensures no_form { HasNoForm profile.now.codes (items_of entries.now) → IfOk result IsImpossibility }
-    ensures without_loss { IsWithoutLoss profile.now (items_of entries.now) → IfOk result IsExplanation }
+pub fn decide(alloc: Global, profile: &Profile, entries: &[Entry]) -> Result<Decision, OutOfMemory>
+    ensures exact { IfOk result (IsExact profile.now (items_of entries.now)) }
+    ensures explained { IfOk result (λ d. IsSoundVerdict profile.now (items_of entries.now) d.verdict) }
+    ensures some_run { IfOk result (λ d. IsOfSomeRun profile.now (items_of entries.now) d.verdict) }
+    ensures accepted { IfOk result (λ d. IsAccepted profile.now (items_of entries.now) d.verdict) }
+    ensures version { IfOk result (λ d. IsOfLeastVersion profile.now (items_of entries.now) d.verdict) }
+    ensures impossible { IfOk result (λ d. IsImpossibleBy profile.now (items_of entries.now) d.verdict) }
+    ensures first { (i : ℕ) (reason : Reason) → IsReasonAt profile.now (items_of entries.now) i reason → IfOk result (λ d. IsImpossibleUpTo i d.verdict) }
+    ensures doubted { IfOk result (λ d. IsDoubted profile.now (items_of entries.now) d.verdict) }
+    ensures of_check { IfOk result (λ d. IsOfCheck profile.now (items_of entries.now) d.verdict) }
+    ensures no_form { HasNoForm profile.now.codes (items_of entries.now) → IfOk result (λ d. IsImpossibility d.verdict) }
+    ensures without_loss { IsWithoutLoss profile.now (items_of entries.now) → IfOk result (λ d. IsExplanation d.verdict) }
 {
     what_contradicts_has_no_run();
     // (for the proof: the profile is sound)
     let _codes = profile.codes();
-    match check(alloc, profile, entries) {
-        Ok(Verdict::Explained { certificate, files }) => {
-            Ok(Verdict::Explained { certificate, files })
-        }
-        Ok(Verdict::Impossible { entry, reason }) => {
-            match earlier(alloc, profile, &entries[..entry]) {
-                Ok(Some(Contradiction { entry, reason })) => {
-                    Ok(Verdict::Impossible { entry, reason })
+    match check(alloc, profile, entries)? {
+        Verdict::Explained { certificate, files } => Ok(Decision {
+            verdict: Verdict::Explained { certificate, files },
+            is_cut: false,
+        }),
+        Verdict::Impossible { entry, reason } => {
+            let Before { found, is_cut } = look_before(alloc, profile, &entries[..entry])?;
+            match found {
+                Some(Contradiction { entry, reason }) => {
+                    let verdict = Verdict::Impossible { entry, reason };
+                    Ok(Decision { verdict, is_cut })
                 }
-                Ok(None) => Ok(Verdict::Impossible { entry, reason }),
-                Err(OutOfMemory) => Err(OutOfMemory),
+                None => {
+                    let verdict = Verdict::Impossible { entry, reason };
+                    Ok(Decision { verdict, is_cut })
+                }
             }
         }
-        Ok(Verdict::Unexplained { entry, .. }) => match look_closer(alloc, profile, entries) {
-            Ok(Judged::NoRun(Contradiction { entry, reason })) => {
-                Ok(Verdict::Impossible { entry, reason })
+        Verdict::Unexplained { entry, .. } => match write_down(alloc, profile, entries)? {
+            Written::NoRun { found, is_cut } => {
+                let Contradiction { entry, reason } = found;
+                let verdict = Verdict::Impossible { entry, reason };
+                Ok(Decision { verdict, is_cut })
             }
-            Ok(Judged::Guessed { guess, unsure_at }) => match explain_by(
-                alloc, profile, entries, guess,
-            ) {
-                Ok(found) => Ok(Verdict::Explained {
-                    certificate: found.certificate,
-                    files: found.files,
-                }),
-                Err(Refusal::NotReplayed { entry }) => match unsure_at {
-                    Some(entry) => Ok(Verdict::Unexplained {
-                        entry,
-                        doubt: Doubt::OutOfSteps,
-                    }),
-                    None => Ok(Verdict::Unexplained {
-                        entry,
-                        doubt: Doubt::NotReplayed,
-                    }),
-                },
-                Err(Refusal::OutOfMemory) => Err(OutOfMemory),
-            },
-            Ok(Judged::CutShort(at)) => Ok(Verdict::Unexplained {
-                entry: at.unwrap_or(entry),
-                doubt: Doubt::OutOfSteps,
+            Written::Run(Explanation { certificate, files }) => Ok(Decision {
+                verdict: Verdict::Explained { certificate, files },
+                is_cut: false,
             }),
-            Err(OutOfMemory) => Err(OutOfMemory),
+            Written::Begun(entry) => {
+                let (doubt, is_cut) = (Doubt::NotReplayed, false);
+                let verdict = Verdict::Unexplained { entry, doubt };
+                Ok(Decision { verdict, is_cut })
+            }
+            Written::CutShort(at) => {
+                let (doubt, is_cut) = (Doubt::OutOfSteps, true);
+                let entry = at.unwrap_or(entry);
+                let verdict = Verdict::Unexplained { entry, doubt };
+                Ok(Decision { verdict, is_cut })
+            }
         },
-        Err(OutOfMemory) => Err(OutOfMemory),
     }
 }
 
@@ -110,33 +136,58 @@ pub fn begins_a_run(
 ) -> Result<bool, OutOfMemory>
     ensures { result ≡ Ok true → BeginsARun profile.now (items_of entries.now) }
 {
-    match decide(alloc, profile, entries) {
-        Ok(Verdict::Explained { .. }) => Ok(true),
-        Ok(
-            Verdict::Unexplained {
-                doubt: Doubt::NotReplayed,
-                ..
-            },
-        ) => Ok(true),
-        Ok(_) => Ok(false),
-        Err(OutOfMemory) => Err(OutOfMemory),
+    match decide(alloc, profile, entries)?.verdict {
+        Verdict::Explained { .. } => Ok(true),
+        Verdict::Unexplained { doubt, .. } => match doubt {
+            Doubt::NotReplayed => Ok(true),
+            Doubt::NeverWhole | Doubt::NotOneBlock | Doubt::OutOfSteps => Ok(false),
+        },
+        Verdict::Impossible { .. } => Ok(false),
     }
 }
 
 // The word at which no run goes on, where there is one among words that are allowed.
-fn earlier(
-    alloc: Global,
-    profile: &Profile,
-    entries: &[Entry],
-) -> Result<Option<Contradiction>, OutOfMemory>
+fn look_before(alloc: Global, profile: &Profile, entries: &[Entry]) -> Result<Before, OutOfMemory>
     requires { AreAllowedUpTo profile.now (items_of entries.now) (length (items_of entries.now)) }
-    ensures some { IfOk result (λ found. IfSome found (IsNoRun profile.now (items_of entries.now))) }
-    ensures none { result ≡ Ok None → HasNoContradiction profile.now (items_of entries.now) (length (items_of entries.now)) }
+    ensures { IfOk result (IsLookedBefore profile.now (items_of entries.now)) }
 {
     match look_closer(alloc, profile, entries)? {
-        Judged::NoRun(found) => Ok(Some(found)),
-        Judged::Guessed { .. } => Ok(None),
-        Judged::CutShort(_) => Ok(None),
+        Judged::NoRun { found, is_cut } => {
+            let found = Some(found);
+            Ok(Before { found, is_cut })
+        }
+        Judged::Guessed { unsure_at, .. } => {
+            let is_cut = unsure_at.is_some();
+            Ok(Before {
+                found: None,
+                is_cut,
+            })
+        }
+        Judged::CutShort(_) => Ok(Before {
+            found: None,
+            is_cut: true,
+        }),
+    }
+}
+
+// The same as `look_closer`, with the run that is guessed written down.
+fn write_down(alloc: Global, profile: &Profile, entries: &[Entry]) -> Result<Written, OutOfMemory>
+    requires { AreAllowedUpTo profile.now (items_of entries.now) (length (items_of entries.now)) }
+    ensures { IfOk result (IsWritten profile.now (items_of entries.now)) }
+{
+    match look_closer(alloc, profile, entries)? {
+        Judged::NoRun { found, is_cut } => Ok(Written::NoRun { found, is_cut }),
+        Judged::Guessed { guess, unsure_at } => {
+            match explain_by(alloc, profile, entries, guess) {
+                Ok(explanation) => Ok(Written::Run(explanation)),
+                Err(Refusal::NotReplayed { entry }) => match unsure_at {
+                    Some(entry) => Ok(Written::CutShort(Some(entry))),
+                    None => Ok(Written::Begun(entry)),
+                },
+                Err(Refusal::OutOfMemory) => Err(OutOfMemory),
+            }
+        }
+        Judged::CutShort(at) => Ok(Written::CutShort(at)),
     }
 }
 
@@ -152,19 +203,22 @@ fn look_closer(alloc: Global, profile: &Profile, entries: &[Entry]) -> Result<Ju
         return Err(OutOfMemory);
     };
     if let Some(found) = found {
-        return match no_run(alloc, profile, &entries[..found.entry])? {
-            Some(entry) => {
-                let reason = Reason::NoRun;
-                Ok(Judged::NoRun(Contradiction { entry, reason }))
-            }
-            None => Ok(Judged::NoRun(found)),
+        let before = search_before(alloc, profile, &entries[..found.entry])?;
+        let is_cut = before.is_cut;
+        return match before.found {
+            Some(earlier) => Ok(Judged::NoRun {
+                found: earlier,
+                is_cut,
+            }),
+            None => Ok(Judged::NoRun { found, is_cut }),
         };
     }
     match search_for_run(alloc, &decoded) {
         Ok(Found::Run { guess, unsure_at }) => Ok(Judged::Guessed { guess, unsure_at }),
-        Ok(Found::NoRun { entry }) => {
+        Ok(Found::NoRun { entry, is_cut }) => {
             let reason = Reason::NoRun;
-            Ok(Judged::NoRun(Contradiction { entry, reason }))
+            let found = Contradiction { entry, reason };
+            Ok(Judged::NoRun { found, is_cut })
         }
         Ok(Found::CutShort { entry }) => Ok(Judged::CutShort(entry)),
         Err(_) => Err(OutOfMemory),
@@ -172,16 +226,32 @@ fn look_closer(alloc: Global, profile: &Profile, entries: &[Entry]) -> Result<Ju
 }
 
 // The first word at which a search finds that no run goes on.
-fn no_run(alloc: Global, profile: &Profile, entries: &[Entry]) -> Result<Option<usize>, OutOfMemory>
-    ensures inside { IfOk result (λ found. IfSome found (λ entry. entry < length entries.now)) }
-    ensures no_run { IfOk result (λ found. IfSome found (λ entry. HasNoRun profile.now (items_of entries.now) entry)) }
+fn search_before(alloc: Global, profile: &Profile, entries: &[Entry]) -> Result<Before, OutOfMemory>
+    ensures { IfOk result (IsSearchedBefore profile.now (items_of entries.now)) }
 {
     let Ok(decoded) = walk(alloc, profile, entries) else {
-        return Ok(None);
+        return Ok(Before {
+            found: None,
+            is_cut: true,
+        });
     };
     match search_for_run(alloc, &decoded) {
-        Ok(Found::NoRun { entry }) => Ok(Some(entry)),
-        Ok(_) => Ok(None),
+        Ok(Found::NoRun { entry, is_cut }) => {
+            let reason = Reason::NoRun;
+            let found = Some(Contradiction { entry, reason });
+            Ok(Before { found, is_cut })
+        }
+        Ok(Found::Run { unsure_at, .. }) => {
+            let is_cut = unsure_at.is_some();
+            Ok(Before {
+                found: None,
+                is_cut,
+            })
+        }
+        Ok(Found::CutShort { .. }) => Ok(Before {
+            found: None,
+            is_cut: true,
+        }),
         Err(_) => Err(OutOfMemory),
     }
 }

@@ -33,7 +33,7 @@ pub use crate::block::unit_of_pieces;
 pub use crate::bounded::{MOST_NODES, search_words};
 pub use crate::budget::Budget;
 pub use crate::contradiction::{Contradiction, first_contradiction};
-pub use crate::deciding::{begins_a_run, decide};
+pub use crate::deciding::{Decision, begins_a_run, decide};
 pub use crate::differing::MOST_ATTEMPTS;
 pub use crate::fill::{Wanted, completed};
 pub use crate::free_bits::bits_for_check_word;

@@ -7,7 +7,7 @@ ghost use Rattle.a429_link.specs.Assignment.{Assigned, IsSound};
 ghost use Rattle.a429_explain.specs.Guess.{IsGuess};
 ghost use Rattle.a429_explain.specs.Walk.{AreAllowedUpTo};
 ghost use Rattle.a429_search.specs.Block.{MayBeUnitOf};
-ghost use Rattle.a429_search.specs.Frontier.{AddCarried, AreAt, AreCarried, AreCovered, AreHeard, AreKept, AreReal, AreSame, CarriesOn, Covers, FitsGroup, FitsNone, GoOnFrom, HasFewest, IsAmong, IsFound, IsReal, IsRefused, IsStart, TakesOn};
+ghost use Rattle.a429_search.specs.Frontier.{AddCarried, AreAt, AreCarried, AreCovered, AreHeard, AreKept, AreReal, AreSame, CarriesOn, Covers, FitsGroup, FitsNone, FitsSome, GoOnFrom, HasFewest, IsAmong, IsFound, IsReal, IsRefused, IsStart, TakesOn};
 ghost use Rattle.a429_search.specs.Recorded.{MayBeOf, MayBeTo, number_of};
 ghost use Rattle.a429_search.specs.Standing.{Begins, IsAt, MakeNothingUp, Stands, StandsLater};
 
@@ -45,14 +45,24 @@ pub(crate) enum Found {
         guess: Guess,
         unsure_at: Option<usize>,
     },
-    /// No run's words begin with those up to this entry.
+    /// No run's words begin with those up to this entry. Where the search was not cut short, some run's words begin with those before it.
     NoRun {
         entry: usize,
+        is_cut: bool,
     },
     /// Neither: the search was cut short. The entry is that of the request at which it first was, where that is known.
     CutShort {
         entry: Option<usize>,
     },
+}
+
+// Where an attempt stops fitting hypotheses.
+#[derive(Clone, Copy)]
+struct Misfit {
+    // The entry with which it fits none of them.
+    entry: usize,
+    // Up to before that entry it fits one of them.
+    fits_before: bool,
 }
 
 // What carries hypotheses on: the groups that they have closed, and the steps that are left.
@@ -94,8 +104,10 @@ pub(crate) fn search_for_run(alloc: Global, decoded: &Decoded) -> Result<Found, 
             return Ok(Found::CutShort { entry: None });
         };
         if !search.take(profile, &attempt)? {
-            let entry = search.first_refused(decoded, from, to)?;
-            return Ok(Found::NoRun { entry });
+            let is_sure = search.is_sure;
+            let Misfit { entry, fits_before } = search.misfit(decoded, from, to)?;
+            let is_cut = !(is_sure && fits_before);
+            return Ok(Found::NoRun { entry, is_cut });
         }
         cut_at = if search.is_whole {
             None
@@ -141,7 +153,7 @@ impl<'a> Search<'a> {
 
     // Carries the hypotheses on to an attempt. `false`, and they stay, where it fits none of them.
     fn take(&mut self, profile: &Profile, attempt: &Attempt) -> Result<bool, AllocError>
-        ensures refused { IfOk result (λ goes_on. goes_on ≡ false → (self.new.hypotheses ≡ self.old.hypotheses) × (self.old.is_whole ≡ true) × FitsNone profile.now self.old.hypotheses.items attempt.now) }
+        ensures refused { IfOk result (λ goes_on. goes_on ≡ false → (self.new.hypotheses ≡ self.old.hypotheses) × (self.new.is_sure ≡ self.old.is_sure) × (self.old.is_whole ≡ true) × FitsNone profile.now self.old.hypotheses.items attempt.now) }
         ensures covers { IfOk result (λ goes_on. goes_on ≡ true → self.new.is_whole ≡ true → GoOnFrom profile.now self.old.is_whole self.old.hypotheses.items attempt.now self.new.hypotheses.items) }
         ensures sure { IfOk result (λ goes_on. goes_on ≡ true → self.new.is_sure ≡ true → (self.old.is_sure ≡ true) × TakesOn profile.now self.old.hypotheses.items attempt.now self.new.hypotheses.items) }
     {
@@ -168,20 +180,16 @@ impl<'a> Search<'a> {
     }
 
     // The first entry with which the attempt from one entry up to before another fits none of the hypotheses, as all of it does.
-    fn first_refused(
-        &mut self,
-        decoded: &Decoded,
-        from: usize,
-        to: usize,
-    ) -> Result<usize, AllocError>
+    fn misfit(&mut self, decoded: &Decoded, from: usize, to: usize) -> Result<Misfit, AllocError>
         requires some { from < to }
         requires inside { to ≤ length decoded.now.items }
         requires refused { IsRefused decoded.now.profile decoded.now.items self.old.hypotheses.items from to }
-        ensures inside { IfOk result (λ entry. entry < to) }
-        ensures refused { IfOk result (λ entry. IsRefused decoded.now.profile decoded.now.items self.old.hypotheses.items from (entry + 1)) }
+        ensures inside { IfOk result (λ m. m.entry < to) }
+        ensures refused { IfOk result (λ m. IsRefused decoded.now.profile decoded.now.items self.old.hypotheses.items from (m.entry + 1)) }
+        ensures fits { IfOk result (λ m. m.fits_before ≡ true → FitsSome decoded.now.profile decoded.now.items self.old.hypotheses.items from m.entry) }
     {
         let hypotheses = &self.hypotheses;
-        self.carrier.first_refused(decoded, hypotheses, from, to)
+        self.carrier.misfit(decoded, hypotheses, from, to)
     }
 
     // Nothing was left out, nor at the last attempt.
@@ -247,55 +255,65 @@ impl<'a> Carrier<'a> {
     }
 
     // The same of these hypotheses: the entry is found by halving.
-    fn first_refused(
+    fn misfit(
         &mut self,
         decoded: &Decoded,
         hypotheses: &[Hypothesis],
         from: usize,
         to: usize,
-    ) -> Result<usize, AllocError>
+    ) -> Result<Misfit, AllocError>
         requires some { from < to }
         requires inside { to ≤ length decoded.now.items }
         requires refused { IsRefused decoded.now.profile decoded.now.items hypotheses.now from to }
-        ensures inside { IfOk result (λ entry. entry < to) }
-        ensures refused { IfOk result (λ entry. IsRefused decoded.now.profile decoded.now.items hypotheses.now from (entry + 1)) }
+        ensures inside { IfOk result (λ m. m.entry < to) }
+        ensures refused { IfOk result (λ m. IsRefused decoded.now.profile decoded.now.items hypotheses.now from (m.entry + 1)) }
+        ensures fits { IfOk result (λ m. m.fits_before ≡ true → FitsSome decoded.now.profile decoded.now.items hypotheses.now from m.entry) }
     {
         let mut fits = from;
+        let mut is_known = !are_none(hypotheses);
         let mut refused = to;
         for _ in 0..usize::BITS {
             let half = fits + (refused - fits) / 2;
             if half <= fits {
                 break;
             }
-            if self.refuses(decoded, hypotheses, from, half)? {
+            let found = self.fits(decoded, hypotheses, from, half)?;
+            if found == Some(false) {
                 refused = half;
             } else {
                 fits = half;
+                is_known = found.is_some();
             }
         }
-        Ok(refused - 1)
+        let entry = refused - 1;
+        let fits_before = is_known && fits == entry;
+        Ok(Misfit { entry, fits_before })
     }
 
-    // The attempt from one entry up to before another fits none of the hypotheses.
-    fn refuses(
+    // Whether the attempt from one entry up to before another fits one of the hypotheses; `None` where that is not known.
+    fn fits(
         &mut self,
         decoded: &Decoded,
         hypotheses: &[Hypothesis],
         from: usize,
         to: usize,
-    ) -> Result<bool, AllocError>
+    ) -> Result<Option<bool>, AllocError>
         requires some { from < to }
         requires inside { to ≤ length decoded.now.items }
-        ensures { IfOk result (λ found. IsTrue found → IsRefused decoded.now.profile decoded.now.items hypotheses.now from to) }
+        ensures refused { result ≡ Ok (Some false) → IsRefused decoded.now.profile decoded.now.items hypotheses.now from to }
+        ensures fits { result ≡ Ok (Some true) → FitsSome decoded.now.profile decoded.now.items hypotheses.now from to }
     {
         let Some(attempt) = attempt_of(self.alloc, decoded, from, to)? else {
-            return Ok(false);
+            return Ok(None);
         };
         let next = self.carried(decoded.profile(), hypotheses, &attempt)?;
-        if self.budget.is_cut() {
-            return Ok(false);
+        if !are_none(&next) {
+            return Ok(Some(true));
         }
-        Ok(are_none(&next))
+        if self.budget.is_cut() {
+            return Ok(None);
+        }
+        Ok(Some(false))
     }
 
     // Puts a hypothesis carried on to an attempt to the others, in each way in which the source may have come to it.

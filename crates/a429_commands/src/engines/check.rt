@@ -13,6 +13,7 @@ ghost use Rattle.a429_commands.specs.Ends.{EndsWithFile, HasGained, heard, unhea
 ghost use Rattle.a429_commands.specs.Fault.{ComesBy};
 ghost use Rattle.a429_commands.specs.Output.{output};
 ghost use Rattle.a429_commands.specs.Recording.{IsReadFault};
+ghost use Rattle.a429_search.specs.Deciding.{IsExact};
 ghost use Rattle.a429_commands.specs.Check.{reason_text, doubt_text, verdict_text, verdict_status, certificate_of, note_text, of_check, of_told, IsEarliest, IsToldBy, IsToldOn, IsToldUnder, IsVerdictBy, LeavesCertificate};
 
 use crate::engines::profile::profile_of;
@@ -24,7 +25,7 @@ use a429_cert::OutOfMemory;
 use a429_explain::{Certificate, Doubt, Reason, Verdict, check};
 use a429_profile::Profile;
 use a429_record::Entry;
-use a429_search::{begins_a_run, decide};
+use a429_search::{Decision, begins_a_run, decide};
 use a429_view::put_explained;
 use a429_word::{Device, Page, Sheet, Tally};
 use std::alloc::Global;
@@ -150,12 +151,18 @@ fn told_by(
 ) -> Result<Told, OutOfMemory>
     ensures { IfOk result (IsToldBy rule profile.now (items_of entries.now)) }
 {
-    let verdict = verdict_by(alloc, profile, entries, rule)?;
-    let has_note = match rule {
-        Rule::Check => false,
-        Rule::Decide => !is_earliest(alloc, profile, entries, &verdict)?,
-    };
-    Ok(Told { verdict, has_note })
+    match rule {
+        Rule::Check => {
+            let verdict = verdict_by(alloc, profile, entries, rule)?;
+            let has_note = false;
+            Ok(Told { verdict, has_note })
+        }
+        Rule::Decide => {
+            let Decision { verdict, is_cut } = decided(alloc, profile, entries)?;
+            let has_note = is_cut && !is_earliest(alloc, profile, entries, &verdict)?;
+            Ok(Told { verdict, has_note })
+        }
+    }
 }
 
 // No entry before the one that is impossible is so: the words before it are those of a run. `false` where that is not found.
@@ -188,8 +195,16 @@ pub(crate) fn verdict_by(
 {
     match rule {
         Rule::Check => check(alloc, profile, entries),
-        Rule::Decide => decide(alloc, profile, entries),
+        Rule::Decide => Ok(decided(alloc, profile, entries)?.verdict),
     }
+}
+
+// The verdict of `decide`, and whether its search was cut short.
+fn decided(alloc: Global, profile: &Profile, entries: &[Entry]) -> Result<Decision, OutOfMemory>
+    ensures verdict { IfOk result (λ d. IsVerdictBy rules.Decide profile.now (items_of entries.now) d.verdict) }
+    ensures exact { IfOk result (IsExact profile.now (items_of entries.now)) }
+{
+    decide(alloc, profile, entries)
 }
 
 // Writes the certificate of a verdict, where there is one, by an empty page.

@@ -1,35 +1,51 @@
-use Rattle.std.proofs.Common.{◌≡◌, ◌∙◌, ◌<◌, ℕ, IfSome, Option, Some, ap, arith, length, slice_get, subst, sym, take}
+use Rattle.std.proofs.Common.{◌≡◌, ◌∙◌, ◌<◌, ℕ, Bool, IfSome, Option, Some, ap, arith, false, length, not, refl, slice_get, subst, sym, take, true}
 use Rattle.a429_link.specs.Attempt.{attempts, latest}
 use Rattle.a429_explain.specs.Guess.{IsGuess}
 use Rattle.a429_search.specs.declared.searching.Hypothesis.{Hypothesis}
-use Rattle.a429_search.specs.Frontier.{FitsNone}
+use Rattle.a429_search.specs.Frontier.{FitsNone, FitsSome}
 use Rattle.a429_search.proofs.FrontierFacts.{CoverNext}
 use Rattle.a429_search.proofs.GroupFacts.{first_of}
 use Rattle.a429_search.proofs.SearchingFacts.{covers_on, is_refused, no_run_at, start_covers}
-use Rattle.a429_search.proofs.SoundFacts.{never_none, sure_at_first, sure_begins, sure_next}
+use Rattle.a429_search.proofs.SoundFacts.{never_none, sure_at_first, sure_before, sure_begins, sure_next}
 use Rattle.a429_search.proofs.searching.search_for_run.Goals as goal
-use Rattle.a429_search.proofs.searching.search_for_run.Goals.{then-search, else-search, then-search-2, else-search-2}
+use Rattle.a429_search.proofs.searching.search_for_run.Goals.{then-is_sure, else-is_sure, then-search, else-search, then-search-2, else-search-2}
 
-pub first_refused-requires-clause-refused : goal.first_refused-requires-clause-refused
-first_refused-requires-clause-refused c =
+pub misfit-requires-clause-refused : goal.misfit-requires-clause-refused
+misfit-requires-clause-refused c =
     let told = c.in_ok-take.ensures.refused c.if-not-branch.true in
     is_refused c.args.decoded.now.profile c.args.decoded.now.items c.attempts.from c.next_request-to.result c.take.new.self.hypotheses.items
     c.in_ok-attempt.field-0 c.in-Some.attempt c.profile-profile.result.now c.profile-profile.ensures.is c.in-Some.is c.in_ok-attempt.ensures
-    (subst (λ l. FitsNone c.profile-profile.result.now l c.in-Some.attempt) (sym (ap (λ v. v.items) told.0)) told.2)
+    (subst (λ l. FitsNone c.profile-profile.result.now l c.in-Some.attempt) (sym (ap (λ v. v.items) told.0)) told.3)
 
 pub returns-then-not-branch : goal.returns-then-not-branch
 returns-then-not-branch c =
     let p = c.args.decoded.now.profile in
     let items = c.args.decoded.now.items in
+    let entry = c.in_ok-entry.field-0.entry in
     let told = c.in_ok-take.ensures.refused c.if-not-branch.true in (
       omega (arith, c.in_ok-entry.ensures.inside, c.next_request-to.ensures.inside),
       no_run_at p c.profile-profile.ensures.sound
           (λ these run. ((c.runs_record_what_can_be_assigned.ensures p these c.profile-profile.ensures.sound).0 run).1) items
-          c.attempts.from c.in_ok-entry.entry c.take.new.self.hypotheses.items
+          c.attempts.from entry c.take.new.self.hypotheses.items
           (subst (λ l. CoverNext p (attempts p (take c.attempts.from items)) l) (sym (ap (λ v. v.items) told.0))
-          (c.attempts.invariant.covers told.1))
+          (c.attempts.invariant.covers told.2))
           c.in_ok-entry.ensures.refused,
+      λ uncut. elim c.if-is_sure.branch [
+        | then-is_sure w ↦
+            sure_before p c.profile-profile.ensures.sound
+            (λ these good. c.runs_record_what_can_be_assigned.ensures p these good) items
+            c.attempts.from entry c.attempts.search.hypotheses.items c.requires
+            (omega (arith, c.in_ok-entry.ensures.inside, c.next_request-to.ensures.inside))
+            (c.attempts.invariant.sure (sym told.1 ∙ w.if-is_sure.true))
+            (subst (λ l. FitsSome p items l c.attempts.from entry) (ap (λ v. v.items) told.0)
+            (c.in_ok-entry.ensures.fits (cc (w.is_cut-is, whole_of c.if-is_sure.is_cut uncut))))
+        | else-is_sure w ↦ absurd (cc (w.is_cut-is, whole_of c.if-is_sure.is_cut uncut))
+      ],
     )
+  where
+    whole_of : (b : Bool) → not b ≡ false → b ≡ true
+    whole_of true e = refl
+    whole_of false e = absurd (cc e)
 
 pub attempts-preserved : goal.attempts-preserved
 attempts-preserved c =
