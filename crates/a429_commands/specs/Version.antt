@@ -4,7 +4,7 @@ use Rattle.a429_commands.specs.Ends.{Promise, of_text}
 
 -- the version of the program, and the versions of the certificates that it reads
 abbrev pub version_text : List ℕ
-version_text = codes "a429 0.9.0\n" ++ codes "certificates 1 2\n"
+version_text = codes "a429 1.0.0\n" ++ codes "certificates 1 2\n"
 
 abbrev pub IsVersionText : List ℕ → Type 0
 IsVersionText text = text ≡ version_text

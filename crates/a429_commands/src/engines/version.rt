@@ -28,7 +28,7 @@ impl Text for Versions {
     ghost begins = { λ v. IsVersionText };
 
     fn put<W: Write>(&self, sheet: &mut Sheet<'_, W>) -> u8 {
-        sheet.put(b"a429 0.9.0\ncertificates 1 2\n");
+        sheet.put(b"a429 1.0.0\ncertificates 1 2\n");
         0
     }
 }
