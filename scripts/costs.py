@@ -44,9 +44,10 @@ class Clock(threading.Thread):
 def process(pid):
     """A process, with the crate that it proves, if any, or None where it has ended."""
     try:
-        with open(f"/proc/{pid}/stat") as it:
+        # (words that hostile tests give need be no UTF-8)
+        with open(f"/proc/{pid}/stat", errors="replace") as it:
             fields = it.read().rpartition(")")[2].split()
-        with open(f"/proc/{pid}/cmdline") as it:
+        with open(f"/proc/{pid}/cmdline", errors="replace") as it:
             words = it.read().split("\0")
         folder = os.path.basename(os.readlink(f"/proc/{pid}/cwd"))
     except OSError:
