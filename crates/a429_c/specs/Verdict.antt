@@ -19,7 +19,7 @@ use Rattle.a429_c.specs.Buffers.{Holds, Left, LeavesFiles}
 
 -- ---- which verdict
 
--- all that `decide` says of its verdict on recorded words
+-- what `decide` says of its verdict on recorded words; whether its search was cut short is not answered, and so not whether an entry is the first
 pub record IsDecided (p : Contents) (items : List Seen) (v : Verdict) : Type 0 where
   pub sound : IsSoundVerdict p items v
   pub accepted : IsAccepted p items v

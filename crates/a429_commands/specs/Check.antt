@@ -69,8 +69,9 @@ verdict_status (Unexplained i doubt) = 2
 
 -- ---- what it means
 
--- the verdict of `decide`: exact, but where its search was cut short; an explanation of `check`, or one of words of which `check` has a doubt;
--- impossible where no run has the words up to the entry: from the first word on at which some reason holds, or by `NoRun`
+-- the verdict of `decide`: an explanation of `check`, or one of words of which `check` has a doubt; impossible where no run has the words up
+-- to the entry: from the first word on at which some reason holds, or by `NoRun`; or left open. The words do not say whether its search was cut
+-- short: that an entry is the first says `IsNotedBy`
 pub record IsDecided (p : Contents) (items : List Seen) (v : Verdict) : Type 0 where
   pub of_check : IsOfCheck p items v
   pub is_cut : Bool
