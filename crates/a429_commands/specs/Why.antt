@@ -11,10 +11,10 @@ use Rattle.a429_record.specs.declared.entry.Entry.{Entry}
 use Rattle.a429_cert.specs.Explained.{items_of}
 use Rattle.a429_explain.specs.declared.verdict.Verdict.{Verdict}
 use Rattle.a429_explain.specs.declared.verdict.Verdict.TheVariants.{Explained, Impossible, Unexplained}
-use Rattle.a429_search.specs.declared.rival.Rival.{Rival}
-use Rattle.a429_search.specs.declared.against.Against.{Against}
-use Rattle.a429_search.specs.declared.against.Against.TheVariants as against
-use Rattle.a429_search.specs.Against.{IsHeldAt}
+use Rattle.a429_contradiction.specs.declared.rival.Rival.{Rival}
+use Rattle.a429_contradiction.specs.declared.against.Against.{Against}
+use Rattle.a429_contradiction.specs.declared.against.Against.TheVariants as against
+use Rattle.a429_contradiction.specs.Against.{IsHeldAt}
 use Rattle.a429_view.specs.Forms.{ldu_text}
 use Rattle.a429_view.specs.Trace.{kinds_text}
 use Rattle.a429_commands.specs.Check.{IsVerdictBy, verdict_status, verdict_text}

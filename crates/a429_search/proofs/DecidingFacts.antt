@@ -28,9 +28,9 @@ use Rattle.a429_explain.specs.Decoded.{sight_at}
 use Rattle.a429_explain.specs.Stop.{IsDoubtAt, IsDoubtOf}
 use Rattle.a429_explain.specs.Verdict.{IsFirst}
 use Rattle.a429_explain.specs.Walk.{AreAllowedUpTo, FitsAt, FitsSight}
-use Rattle.a429_search.specs.declared.contradiction.Contradiction.{Contradiction}
-use Rattle.a429_search.specs.Contradiction.{ContradictsAt, HasNoContradiction, HasNoneBefore, HasNoRun}
-use Rattle.a429_search.proofs.ContradictionFacts.{none_before}
+use Rattle.a429_contradiction.specs.declared.contradiction.Contradiction.{Contradiction}
+use Rattle.a429_contradiction.specs.Contradiction.{ContradictsAt, HasNoContradiction, HasNoneBefore, HasNoRun}
+use Rattle.a429_contradiction.proofs.ContradictionFacts.{none_before}
 use Rattle.a429_search.specs.Deciding.{HasDoubt, HasNoReason, IsFirstReasonAt, IsImpossibleBy, IsNoRun, IsNoRunUnlessCut, IsReasonAt, IsSearched}
 
 -- ---- the first words of a recording

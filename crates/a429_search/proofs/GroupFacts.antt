@@ -7,12 +7,12 @@ use Rattle.a429_ldu.specs.Ldu.{LduValue}
 use Rattle.a429_link.specs.Run.{IsSubsequenceOf}
 use Rattle.a429_search.specs.declared.attempts.Attempt.{Attempt}
 use Rattle.a429_search.specs.declared.attempts.StartWord.{StartWord}
-use Rattle.a429_search.specs.declared.pieces.EndWord.{EndWord}
-use Rattle.a429_search.specs.declared.pieces.GroupPieces.{GroupPieces}
-use Rattle.a429_search.specs.Block.{MayBeUnitOf}
-use Rattle.a429_search.specs.Order.{HasEach, lists_of, words_at}
-use Rattle.a429_search.proofs.OrderFacts.{inside_lists}
-use Rattle.a429_search.proofs.SubsequenceFacts.{sub_trans}
+use Rattle.a429_merge.specs.declared.pieces.EndWord.{EndWord}
+use Rattle.a429_merge.specs.declared.pieces.GroupPieces.{GroupPieces}
+use Rattle.a429_merge.specs.Block.{MayBeUnitOf}
+use Rattle.a429_merge.specs.Order.{HasEach, lists_of, words_at}
+use Rattle.a429_merge.proofs.OrderFacts.{inside_lists}
+use Rattle.a429_merge.proofs.SubsequenceFacts.{sub_trans}
 use Rattle.a429_search.specs.Recorded.{Agree, MayBeOf, gfi_of}
 
 gfi_is : (u : LduValue) (o : Option StartWord) → IfSome o (λ s. u.gfi ≡ s.gfi) → IfSome (gfi_of o) (λ n. u.gfi ≡ n)

@@ -10,12 +10,12 @@ use Rattle.a429_link.specs.Run.{IsSubsequenceOf}
 use Rattle.a429_link.proofs.Subsequence.{sub_length}
 use Rattle.a429_search.specs.declared.attempts.Attempt.{Attempt}
 use Rattle.a429_search.specs.declared.attempts.StartWord.{StartWord}
-use Rattle.a429_search.specs.declared.pieces.EndWord.{EndWord}
-use Rattle.a429_search.specs.declared.pieces.GroupPieces.{GroupPieces}
+use Rattle.a429_merge.specs.declared.pieces.EndWord.{EndWord}
+use Rattle.a429_merge.specs.declared.pieces.GroupPieces.{GroupPieces}
 use Rattle.a429_search.specs.declared.groups.Group.{Group}
 use Rattle.a429_search.specs.declared.searching.Hypothesis.{Hypothesis}
 use Rattle.a429_search.specs.declared.standing.Standing.{Standing}
-use Rattle.a429_search.specs.Block.{MayBeUnitOf}
+use Rattle.a429_merge.specs.Block.{MayBeUnitOf}
 use Rattle.a429_search.specs.Frontier.{AreAt, AreCarried, AreHeard, CanSend, FitsGroup, IsHeardBy, IsReal, SomeSays}
 use Rattle.a429_search.specs.Recorded.{MayBeOf, MayBeTo, number_of}
 use Rattle.a429_search.specs.Standing.{CanBe, CanStand, IsAt, IsHeard, IsRegular}

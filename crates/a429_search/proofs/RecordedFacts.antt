@@ -24,7 +24,7 @@ use Rattle.a429_explain.specs.declared.decoded.DecodedWord.{DecodedWord}
 use Rattle.a429_explain.specs.Decoded.{IsHeardAt}
 use Rattle.a429_search.specs.declared.attempts.Attempt.{Attempt}
 use Rattle.a429_search.specs.declared.attempts.StartWord.{StartWord}
-use Rattle.a429_search.specs.declared.pieces.EndWord.{EndWord}
+use Rattle.a429_merge.specs.declared.pieces.EndWord.{EndWord}
 use Rattle.a429_search.specs.Recorded.{IsAttemptFrom, IsRecorded, IsTaken, MayBeTo, asked_at, end_by, end_from, start_by, start_from}
 
 -- ---- one more word of the block

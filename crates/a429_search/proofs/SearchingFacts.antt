@@ -15,18 +15,18 @@ use Rattle.a429_link.proofs.AssignedSteps.{some_attempts}
 use Rattle.a429_link.specs.Number.{next_number, number_after}
 use Rattle.a429_search.specs.declared.attempts.Attempt.{Attempt}
 use Rattle.a429_search.specs.declared.attempts.StartWord.{StartWord}
-use Rattle.a429_search.specs.declared.pieces.EndWord.{EndWord}
+use Rattle.a429_merge.specs.declared.pieces.EndWord.{EndWord}
 use Rattle.a429_search.specs.declared.groups.Group.{Group}
 use Rattle.a429_search.specs.declared.searching.Hypothesis.{Hypothesis}
 use Rattle.a429_search.specs.declared.standing.Standing.{Standing}
 use Rattle.a429_search.specs.declared.standing.Ways.{Ways}
 use Rattle.a429_search.specs.Frontier.{AreAt, AreCovered, AreKept, CarriesOn, Covers, FitsGroup, FitsNone, GoOnFrom, HasFewest, IsAmong, IsRefused, IsStart}
-use Rattle.a429_search.specs.Contradiction.{HasNoRun}
+use Rattle.a429_contradiction.specs.Contradiction.{HasNoRun}
 use Rattle.a429_search.specs.Recorded.{IsAttemptFrom, MayBeOf, MayBeTo, number_of}
 use Rattle.a429_search.specs.Standing.{Begins, IsAt, IsHeard, IsNamed, LeaveNothingOut, MayStand, Stands, StandsLater, all_give_ups}
 use Rattle.a429_search.proofs.FrontierFacts.{CoverNext, comes_next, cover_more, in_range, not_assignable}
 use Rattle.a429_search.proofs.RecordedFacts.{may_be_to, there}
-use Rattle.a429_search.proofs.RivalFacts.{get_push}
+use Rattle.a429_contradiction.proofs.RivalFacts.{get_push}
 use Rattle.a429_search.proofs.StandingFacts.{at_stands, fewer_later, fewer_stands}
 
 -- ---- one more hypothesis

@@ -23,7 +23,7 @@ use Rattle.a429_link.proofs.MessageRead.{is_read}
 use Rattle.a429_link.proofs.Subsequence.{sub_lost, sub_none, sub_push}
 use Rattle.a429_search.specs.declared.attempts.Attempt as kept
 use Rattle.a429_search.specs.declared.attempts.StartWord.{StartWord}
-use Rattle.a429_search.specs.declared.pieces.EndWord.{EndWord}
+use Rattle.a429_merge.specs.declared.pieces.EndWord.{EndWord}
 use Rattle.a429_search.specs.Recorded.{IsRecorded, MayBeTo, end_by, end_from, start_by, start_from}
 use Rattle.a429_search.proofs.RecordedFacts.{end_push, start_push}
 

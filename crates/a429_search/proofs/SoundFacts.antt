@@ -19,13 +19,13 @@ use Rattle.a429_search.specs.declared.groups.Group.{Group}
 use Rattle.a429_search.specs.declared.searching.Hypothesis.{Hypothesis}
 use Rattle.a429_search.specs.declared.standing.Standing.{Standing}
 use Rattle.a429_search.specs.declared.standing.Ways.{Ways}
-use Rattle.a429_search.specs.Block.{MayBeUnitOf}
+use Rattle.a429_merge.specs.Block.{MayBeUnitOf}
 use Rattle.a429_search.specs.Frontier.{AddCarried, AreCarried, AreHeard, AreSame, CanSend, FitsGroup, FitsSome, IsCarriedFrom, IsHeardBy, IsReal, IsStart, LeadsBy, SomeSays, TakesOn}
 use Rattle.a429_search.specs.Recorded.{IsAttemptFrom, MayBeOf, MayBeTo, number_of}
 use Rattle.a429_search.specs.Standing.{CanBe, CanComeTo, CanStand, IsInRange, IsNamed, IsRegular, MakeNothingUp, all_give_ups, past}
 use Rattle.a429_search.proofs.FrontierFacts.{CanReach}
 use Rattle.a429_search.proofs.RecordedFacts.{there}
-use Rattle.a429_search.proofs.RivalFacts.{get_push}
+use Rattle.a429_contradiction.proofs.RivalFacts.{get_push}
 use Rattle.a429_search.proofs.ShapeFacts.{is_of}
 use Rattle.a429_search.proofs.StandingFacts.{can_first, can_now, range_now}
 

@@ -15,7 +15,7 @@ use Rattle.a429_explain.specs.Explanation.{IsExplanationOf}
 use Rattle.a429_explain.specs.Verdict.{IsFirst}
 use Rattle.a429_explain.specs.Walk.{AreAllowedUpTo, FitsAt}
 use Rattle.a429_explain.specs.Guess.{IsGuess}
-use Rattle.a429_search.specs.declared.contradiction.Contradiction.{Contradiction}
+use Rattle.a429_contradiction.specs.declared.contradiction.Contradiction.{Contradiction}
 use Rattle.a429_search.specs.declared.deciding.Judged.{Judged}
 use Rattle.a429_search.specs.declared.deciding.Judged.TheVariants as judged
 use Rattle.a429_search.specs.declared.deciding.Before.{Before}
@@ -23,7 +23,7 @@ use Rattle.a429_search.specs.declared.deciding.Decision.{Decision}
 use Rattle.a429_search.specs.declared.deciding.Written.{Written}
 use Rattle.a429_search.specs.declared.deciding.Written.TheVariants as written
 use Rattle.a429_search.specs.Frontier.{IsSureUnless}
-use Rattle.a429_search.specs.Contradiction.{ContradictsAt, HasNoContradiction, HasNoneBefore, HasNoRun, IsFirstContradiction}
+use Rattle.a429_contradiction.specs.Contradiction.{ContradictsAt, HasNoContradiction, HasNoneBefore, HasNoRun, IsFirstContradiction}
 
 -- the words before item i do not allow it, and the reason fits it; or it contradicts them, by this reason
 abbrev pub IsReasonAt : Contents → List Seen → ℕ → Reason → Type 0

@@ -14,8 +14,8 @@ use Rattle.a429_search.specs.declared.searching.Hypothesis.{Hypothesis}
 use Rattle.a429_search.specs.declared.standing.Standing.{Standing}
 use Rattle.a429_search.specs.declared.searching.Found.{Found}
 use Rattle.a429_search.specs.declared.searching.Found.TheVariants as found
-use Rattle.a429_search.specs.Block.{MayBeUnitOf}
-use Rattle.a429_search.specs.Contradiction.{HasNoRun}
+use Rattle.a429_merge.specs.Block.{MayBeUnitOf}
+use Rattle.a429_contradiction.specs.Contradiction.{HasNoRun}
 use Rattle.a429_search.specs.Recorded.{IsAttemptFrom, MayBeTo}
 use Rattle.a429_search.specs.Standing.{CanStand, IsAt, IsRegular, Stands, StandsLater, all_give_ups}
 

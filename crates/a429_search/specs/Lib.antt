@@ -1,15 +1,4 @@
-pub mod Block
-pub mod Bounded
-pub mod Choice
-pub mod Fill
-pub mod FreeBits
 pub mod Standing
 pub mod Recorded
-pub mod Order
-pub mod Pair
 pub mod Deciding
-pub mod SoFar
-pub mod Contradiction
-pub mod Against
-pub mod Rival
 pub mod Frontier

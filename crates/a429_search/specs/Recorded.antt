@@ -17,8 +17,8 @@ use Rattle.a429_link.specs.Run.{IsSubsequenceOf}
 use Rattle.a429_link.specs.WholeBlock.{data_words}
 use Rattle.a429_search.specs.declared.attempts.Attempt.{Attempt}
 use Rattle.a429_search.specs.declared.attempts.StartWord.{StartWord}
-use Rattle.a429_search.specs.declared.pieces.EndWord.{EndWord}
-use Rattle.a429_search.specs.declared.pieces.GroupPieces.{GroupPieces}
+use Rattle.a429_merge.specs.declared.pieces.EndWord.{EndWord}
+use Rattle.a429_merge.specs.declared.pieces.GroupPieces.{GroupPieces}
 
 -- what the start word says that comes last among these, or, where there is none, what was said before
 abbrev pub start_by : Option Form → Option StartWord → Option StartWord

@@ -5,10 +5,10 @@ ghost use Rattle.a429_profile.specs.declared.codes.Codes.{Codes};
 ghost use Rattle.a429_link.specs.Attempt.{attempts, fresh, latest};
 ghost use Rattle.a429_search.specs.Recorded.{IsAttemptFrom, IsRecorded, IsTaken, asked_at, gfi_of, number_of};
 
-use crate::pieces::EndWord;
 use a429_explain::Decoded;
 use a429_ldu::Form;
 use a429_link::{Seen, UnitNumber};
+use a429_merge::EndWord;
 use a429_word::{Bus, Word};
 use std::alloc::{AllocError, Global};
 

@@ -9,9 +9,9 @@ ghost use Rattle.a429_explain.specs.WithoutLoss.{IsWithoutLoss};
 ghost use Rattle.a429_link.specs.Run.{BeginsARun};
 ghost use Rattle.a429_search.specs.Deciding.{IsExact, IsImpossibleBy, IsImpossibleUpTo, IsJudged, IsLookedBefore, IsOfCheck, IsReasonAt, IsSearchedBefore, IsWritten};
 
-use crate::contradiction::{Contradiction, first_contradiction, what_contradicts_has_no_run};
 use crate::searching::{Found, search_for_run};
 use a429_cert::OutOfMemory;
+use a429_contradiction::{Contradiction, first_contradiction, what_contradicts_has_no_run};
 use a429_explain::walk::walk;
 use a429_explain::{Doubt, Explanation, Guess, Reason, Refusal, Verdict, check, explain_by};
 use a429_profile::Profile;

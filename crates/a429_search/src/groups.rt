@@ -2,18 +2,15 @@
 
 ghost use Rattle.std.specs.Prelude.{◌≡◌, ◌≤◌, ℕ, Ok, None, true, false, IfOk, IfSome, IsTrue, SomeIndex};
 ghost use Rattle.a429_link.specs.Run.{IsSubsequenceOf};
-ghost use Rattle.a429_search.specs.Order.{lists_of, words_at};
+ghost use Rattle.a429_merge.specs.Order.{lists_of, words_at};
 ghost use Rattle.a429_profile.specs.Profile.{Contents};
-ghost use Rattle.a429_ldu.specs.Ldu.{LduValue};
-ghost use Rattle.a429_search.specs.Block.{MayBeUnitOf};
+ghost use Rattle.a429_ldu.specs.Ldu.{IsLdu, LduValue};
+ghost use Rattle.a429_merge.specs.Block.{MayBeUnitOf};
 ghost use Rattle.a429_search.specs.Recorded.{Agree, MayBeOf};
 
 use crate::attempts::Attempt;
-use crate::block::{copied, unit_of_pieces};
-use crate::budget::Budget;
-use crate::differing::{is_in_some, lists_with};
-use crate::pieces::{EndWord, GroupPieces};
-use a429_ldu::Ldu;
+use a429_ldu::{Ldu, LduFault};
+use a429_merge::{Budget, EndWord, GroupPieces, is_in_some, lists_with, unit_of_pieces};
 use a429_profile::Profile;
 use std::alloc::{AllocError, Global};
 
@@ -204,4 +201,27 @@ fn are_in_range(pieces: &GroupPieces) -> bool
         None => true,
     };
     pieces.count >= 3 && gfi && flags
+}
+
+/// The same link data unit once more: it is one of the profile.
+pub(crate) fn copied(
+    alloc: Global,
+    profile: &Profile,
+    unit: &Ldu,
+) -> Result<Option<Ldu>, AllocError>
+    ensures unit { IfOk result (λ found. IfSome found (λ u. IsLdu profile.now u)) }
+    ensures same { IfOk result (λ found. IfSome found (λ u. u ≡ unit.now)) }
+{
+    match Ldu::new(
+        alloc,
+        profile,
+        unit.gfi(),
+        unit.flags(),
+        unit.check(),
+        unit.words(),
+    ) {
+        Ok(unit) => Ok(Some(unit)),
+        Err(LduFault::OutOfMemory) => Err(AllocError),
+        Err(_) => Ok(None),
+    }
 }

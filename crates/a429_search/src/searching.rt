@@ -6,20 +6,19 @@ ghost use Rattle.a429_ldu.specs.Ldu.{LduValue};
 ghost use Rattle.a429_link.specs.Assignment.{Assigned, IsSound};
 ghost use Rattle.a429_explain.specs.Guess.{IsGuess};
 ghost use Rattle.a429_explain.specs.Walk.{AreAllowedUpTo};
-ghost use Rattle.a429_search.specs.Block.{MayBeUnitOf};
+ghost use Rattle.a429_merge.specs.Block.{MayBeUnitOf};
 ghost use Rattle.a429_search.specs.Frontier.{AddCarried, AreAt, AreCarried, AreCovered, AreHeard, AreKept, AreReal, AreSame, CarriesOn, Covers, FitsGroup, FitsNone, FitsSome, GoOnFrom, HasFewest, IsAmong, IsFound, IsReal, IsRefused, IsStart, TakesOn};
 ghost use Rattle.a429_search.specs.Recorded.{MayBeOf, MayBeTo, number_of};
 ghost use Rattle.a429_search.specs.Standing.{Begins, IsAt, MakeNothingUp, Stands, StandsLater};
 
 use crate::attempts::{Attempt, attempt_of, first_request, next_request};
-use crate::budget::Budget;
 use crate::groups::Group;
-use crate::merged::STEPS_A_WORD;
 use crate::standing::{Standing, Ways};
 use crate::trail::{Course, Trail, with_heard};
 use a429_explain::{Decoded, Guess, roles};
 use a429_link::laws::attempts::runs_record_what_can_be_assigned;
 use a429_link::{UnitNumber, is_final};
+use a429_merge::{Budget, STEPS_A_WORD};
 use a429_profile::Profile;
 use std::alloc::{AllocError, Global};
 

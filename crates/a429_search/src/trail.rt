@@ -6,7 +6,7 @@ ghost use Rattle.a429_link.specs.Assignment.{Assigned};
 ghost use Rattle.a429_explain.specs.Plan.{ArePlans};
 ghost use Rattle.a429_search.specs.Frontier.{AreCovered, AreSame};
 
-use crate::block::copied;
+use crate::groups::copied;
 use crate::searching::Hypothesis;
 use a429_explain::{Plan, Role};
 use a429_ldu::Ldu;

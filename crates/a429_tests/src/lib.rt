@@ -20,6 +20,8 @@ mod ldu;
 #[cfg(test)]
 mod link;
 #[cfg(test)]
+mod merge;
+#[cfg(test)]
 mod parts;
 #[cfg(test)]
 mod profile;
@@ -29,8 +31,6 @@ mod record;
 mod recordings;
 #[cfg(test)]
 mod sample;
-#[cfg(test)]
-mod search;
 #[cfg(test)]
 mod side;
 #[cfg(test)]

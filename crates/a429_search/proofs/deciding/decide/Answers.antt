@@ -7,9 +7,9 @@ use Rattle.a429_cert.proofs.ExplainedFacts.{in_some_run}
 use Rattle.a429_explain.specs.declared.verdict.Verdict.{Verdict}
 use Rattle.a429_explain.specs.Verdict.{IsDoubted, IsFirst, IsImpossible, IsSoundVerdict}
 use Rattle.a429_explain.specs.Walk.{AreAllowedUpTo}
-use Rattle.a429_search.specs.declared.contradiction.Contradiction.{Contradiction}
+use Rattle.a429_contradiction.specs.declared.contradiction.Contradiction.{Contradiction}
 use Rattle.a429_search.specs.declared.deciding.Written.{Written}
-use Rattle.a429_search.specs.Contradiction.{ContradictsAt, HasNoContradiction}
+use Rattle.a429_contradiction.specs.Contradiction.{ContradictsAt, HasNoContradiction}
 use Rattle.a429_search.specs.Deciding.{IsFoundBefore, IsNoRun, IsWritten}
 use Rattle.a429_search.proofs.DecidingFacts.{allowed_first, at_least, begins_within, doubt_of_check, ended_inside, explained_none, first_by, found_first, first_of_refused, impossible_by, no_reason_at_all, none_first}
 use Rattle.a429_search.proofs.deciding.decide.Goals as goal

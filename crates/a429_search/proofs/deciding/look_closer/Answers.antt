@@ -2,8 +2,8 @@ use Rattle.std.proofs.Common.{IfSome, Option, arith, inl, subst, sym, take}
 use Rattle.std.proofs.lemmas.List.{take-map}
 use Rattle.a429_link.specs.Run.{BeginsARun}
 use Rattle.a429_cert.specs.Explained.{items_of, seen_of}
-use Rattle.a429_search.specs.declared.contradiction.Contradiction.{Contradiction}
-use Rattle.a429_search.specs.Contradiction.{HasNoRun, IsFirstContradiction}
+use Rattle.a429_contradiction.specs.declared.contradiction.Contradiction.{Contradiction}
+use Rattle.a429_contradiction.specs.Contradiction.{HasNoRun, IsFirstContradiction}
 use Rattle.a429_search.specs.Deciding.{IsSearched}
 use Rattle.a429_search.proofs.DecidingFacts.{no_run_before}
 use Rattle.a429_search.proofs.deciding.look_closer.Goals as goal

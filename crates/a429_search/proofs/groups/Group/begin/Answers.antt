@@ -1,6 +1,6 @@
 use Rattle.std.proofs.Common.{◌≡◌, arith, ◌++◌, ◌∷◌, ◌∙◌, [], List, Vec, Global, ℕ, ap, refl, subst}
 use Rattle.a429_link.specs.Run.{IsSubsequenceOf}
-use Rattle.a429_search.specs.Order.{HasEach, lists_of}
+use Rattle.a429_merge.specs.Order.{HasEach, lists_of}
 use Rattle.a429_search.proofs.GroupFacts.{of_attempt}
 use Rattle.a429_search.proofs.groups.Group.begin.Goals as goal
 

@@ -1,7 +1,7 @@
 use Rattle.std.proofs.Common.{◌≡◌, IfSome, List, Option, true, refl, subst, sym, ℕ}
-use Rattle.a429_search.specs.declared.pieces.EndWord.{EndWord}
+use Rattle.a429_merge.specs.declared.pieces.EndWord.{EndWord}
 use Rattle.a429_link.specs.Run.{IsSubsequenceOf}
-use Rattle.a429_search.specs.Order.{HasEach, lists_of}
+use Rattle.a429_merge.specs.Order.{HasEach, lists_of}
 use Rattle.a429_search.proofs.GroupFacts.{in_lists, of_new, with_attempt, without_attempt}
 use Rattle.a429_search.proofs.groups.Group.pieces_with.Goals as goal
 

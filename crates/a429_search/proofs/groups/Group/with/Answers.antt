@@ -2,8 +2,8 @@ use Rattle.std.proofs.Common.{◌≡◌, ◌∙◌, Option, IfSome, ap, not, sub
 use Rattle.a429_search.proofs.GroupFacts.{was_true}
 use Rattle.a429_profile.specs.Profile.{Contents}
 use Rattle.a429_ldu.specs.Ldu.{LduValue}
-use Rattle.a429_search.specs.declared.pieces.GroupPieces.{GroupPieces}
-use Rattle.a429_search.specs.Block.{MayBeUnitOf}
+use Rattle.a429_merge.specs.declared.pieces.GroupPieces.{GroupPieces}
+use Rattle.a429_merge.specs.Block.{MayBeUnitOf}
 use Rattle.a429_search.specs.Recorded.{MayBeOf}
 use Rattle.a429_search.proofs.groups.Group.with.Goals as goal
 use Rattle.a429_search.proofs.groups.Group.with.Goals.{else-is_new, then-is_new}

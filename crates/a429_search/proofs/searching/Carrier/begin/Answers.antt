@@ -3,7 +3,7 @@ use Rattle.a429_ldu.specs.Ldu.{LduValue}
 use Rattle.a429_link.specs.declared.number.UnitNumber.{UnitNumber}
 use Rattle.a429_search.specs.declared.groups.Group.{Group}
 use Rattle.a429_search.specs.declared.standing.Standing.{Standing}
-use Rattle.a429_search.specs.Block.{MayBeUnitOf}
+use Rattle.a429_merge.specs.Block.{MayBeUnitOf}
 use Rattle.a429_search.specs.Recorded.{MayBeOf, number_of}
 use Rattle.a429_search.specs.Standing.{CanComeTo, CanStand, IsInRange, IsNamed, IsRegular}
 use Rattle.a429_search.proofs.SearchingFacts.{at_pushed, at_way}

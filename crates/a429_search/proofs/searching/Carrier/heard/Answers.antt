@@ -3,7 +3,7 @@ use Rattle.a429_ldu.specs.Ldu.{LduValue}
 use Rattle.a429_link.specs.Number.{next_number}
 use Rattle.a429_search.specs.declared.groups.Group.{Group}
 use Rattle.a429_search.specs.declared.searching.Hypothesis.{Hypothesis}
-use Rattle.a429_search.specs.Block.{MayBeUnitOf}
+use Rattle.a429_merge.specs.Block.{MayBeUnitOf}
 use Rattle.a429_search.specs.Recorded.{MayBeOf}
 use Rattle.a429_search.proofs.HeardFacts.{are_heard, fits_group, one_group}
 use Rattle.a429_search.proofs.SearchingFacts.{heard_goes_on}

@@ -1,7 +1,7 @@
 use Rattle.std.proofs.Common.{Err, IfOk, IfSome, None, Ok, Option, Result, Some, subst, sym}
 use Rattle.a429_ldu.specs.Ldu.{LduValue}
 use Rattle.a429_search.specs.declared.groups.Group.{Group}
-use Rattle.a429_search.specs.Block.{MayBeUnitOf}
+use Rattle.a429_merge.specs.Block.{MayBeUnitOf}
 use Rattle.a429_search.specs.Frontier.{FitsGroup}
 use Rattle.a429_search.specs.Recorded.{MayBeOf}
 use Rattle.a429_search.proofs.searching.Carrier.joined.Goals as goal

@@ -1,0 +1,4 @@
+pub mod SoFar
+pub mod Contradiction
+pub mod Against
+pub mod Rival

@@ -1,0 +1,13 @@
+//! Words that contradict those before them, and what a word is held against that no run records.
+#![tactic(auto)]
+
+mod against;
+mod attempt_words;
+mod contradiction;
+mod data_words;
+mod rival;
+mod so_far;
+
+pub use crate::against::{Against, held_against};
+pub use crate::contradiction::{Contradiction, first_contradiction, what_contradicts_has_no_run};
+pub use crate::rival::Rival;

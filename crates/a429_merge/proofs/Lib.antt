@@ -1,0 +1,14 @@
+pub mod XorFacts
+pub mod ChoiceFacts
+pub mod AffineFacts
+pub mod CheckWordSums
+pub mod FreeBitsFacts
+pub mod SubsequenceFacts
+pub mod OrderFacts
+pub mod PairFacts
+pub mod FillFacts
+pub mod BoundedFacts
+pub mod HopelessFacts
+pub mod DifferingFacts
+pub mod MergedFacts
+pub mod BlockFacts

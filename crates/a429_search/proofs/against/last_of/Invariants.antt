@@ -1,6 +1,0 @@
-use Rattle.std.proofs.Common.{IfSome}
-use Rattle.a429_search.specs.Against.{IsWordAt}
-use Rattle.a429_search.proofs.against.last_of.Given as goal
-
-abbrev pub invariant-loop-entry : goal.invariant-loop-entry
-invariant-loop-entry l = IfSome l.found (λ k. IsWordAt l.before.items k l.word)

@@ -1,6 +1,0 @@
-use Rattle.std.proofs.Common.{ℕ, ◌<◌}
-use Rattle.a429_search.specs.Order.{lists_of, IsNext}
-use Rattle.a429_search.proofs.bounded.is_first.Given as goal
-
-abbrev pub invariant-loop-j : goal.invariant-loop-j
-invariant-loop-j l = (k : ℕ) → k < l.j → ¬ IsNext (lists_of l.lists) l.passed k l.word

@@ -1,6 +1,0 @@
-use Rattle.std.proofs.Common.{◌≡◌, take, fold}
-use Rattle.a429_search.specs.Choice.{reduced_by}
-use Rattle.a429_search.proofs.choice.reduced.Given as goal
-
-abbrev pub invariant-loop-step : goal.invariant-loop-step
-invariant-loop-step l = l.rest ≡ fold reduced_by l.fn.sum (take l.step-index l.basis)

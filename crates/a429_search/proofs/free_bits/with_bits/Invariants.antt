@@ -1,6 +1,0 @@
-use Rattle.std.proofs.Common.{◌≡◌, ◌++◌, drop}
-use Rattle.a429_search.specs.FreeBits.{with_bits}
-use Rattle.a429_search.proofs.free_bits.with_bits.Given as goal
-
-abbrev pub invariant-loop-byte : goal.invariant-loop-byte
-invariant-loop-byte l = l.changed.items ++ with_bits l.rest (drop l.byte-index l.bytes) ≡ with_bits l.fn.bits l.bytes
