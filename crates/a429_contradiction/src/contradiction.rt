@@ -1,25 +1,20 @@
 //! The first word of a recording that contradicts those before it.
 
-ghost use Rattle.std.specs.Prelude.{◌≡◌, ◌↔◌, ℕ, List, [], Ok, Some, None, IfOk, IfSome, IsTrue, OnOk, length};
+ghost use Rattle.std.specs.Prelude.{◌≡◌, ◌↔◌, [], Ok, Some, None, IfOk, IfSome, IsTrue, OnOk, length};
 ghost use Rattle.a429_explain.specs.Walk.{AreAllowedUpTo};
-ghost use Rattle.a429_profile.specs.Profile.{Contents, IsProfile};
 ghost use Rattle.a429_ldu.specs.Form.{form_of};
-ghost use Rattle.a429_link.specs.declared.seen.Seen.{Seen};
 ghost use Rattle.a429_link.specs.Observer.{at_first, sees, Allows};
 ghost use Rattle.a429_link.specs.Contradiction.{none_so_far, so_far_after};
 ghost use Rattle.a429_explain.specs.declared.verdict.Reason.{Reason};
 ghost use Rattle.a429_link.specs.WholeBlock.{IsHalfForm, data_words};
 ghost use Rattle.a429_contradiction.specs.SoFar.{data_after, unheard};
-ghost use Rattle.a429_contradiction.specs.Contradiction.{Contradicts, ContradictsAt, HasNoContradiction, HasNoneBefore, HasNoRun, IsFirstContradiction};
+ghost use Rattle.a429_contradiction.specs.Contradiction.{Contradicts, HasNoContradiction, HasNoneBefore, HasNoRun, IsFirstContradiction};
 
 use crate::data_words::DataWords;
+use crate::laws::what_contradicts_has_no_run;
 use crate::so_far::SoFar;
 use a429_explain::{Decoded, Reason};
 use a429_ldu::Form;
-use a429_link::laws::attempts::{
-    a_start_word_may_come, a_whole_block_is_a_unit, all_data_words_carry_bytes,
-    what_contradicts_is_impossible,
-};
 use a429_link::{Observer, Seen};
 use a429_profile::Profile;
 use a429_word::Bus;
@@ -41,16 +36,6 @@ pub(crate) struct Witness {
     pub(crate) observer: Observer,
     pub(crate) so_far: SoFar,
     pub(crate) parts: DataWords,
-}
-
-/// What contradicts the words before it, no run records after them.
-pub fn what_contradicts_has_no_run()
-    ensures { (p : Contents) (items : List Seen) (i : ℕ) (reason : Reason) → IsProfile p → ContradictsAt p items i reason → HasNoRun p items i }
-{
-    a_whole_block_is_a_unit();
-    all_data_words_carry_bytes();
-    a_start_word_may_come();
-    what_contradicts_is_impossible();
 }
 
 /// The first word that contradicts those before it: no run records it after those. Where two reasons hold, it is the first

@@ -5,9 +5,10 @@ mod against;
 mod attempt_words;
 mod contradiction;
 mod data_words;
+pub mod laws;
 mod rival;
 mod so_far;
 
 pub use crate::against::{Against, held_against};
-pub use crate::contradiction::{Contradiction, first_contradiction, what_contradicts_has_no_run};
+pub use crate::contradiction::{Contradiction, first_contradiction};
 pub use crate::rival::Rival;

@@ -11,7 +11,8 @@ ghost use Rattle.a429_search.specs.Deciding.{IsExact, IsImpossibleBy, IsImpossib
 
 use crate::searching::{Found, search_for_run};
 use a429_cert::OutOfMemory;
-use a429_contradiction::{Contradiction, first_contradiction, what_contradicts_has_no_run};
+use a429_contradiction::laws::what_contradicts_has_no_run;
+use a429_contradiction::{Contradiction, first_contradiction};
 use a429_explain::walk::walk;
 use a429_explain::{Doubt, Explanation, Guess, Reason, Refusal, Verdict, check, explain_by};
 use a429_profile::Profile;

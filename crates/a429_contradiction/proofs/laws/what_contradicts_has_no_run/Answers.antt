@@ -1,5 +1,5 @@
 use Rattle.a429_contradiction.proofs.ContradictionFacts.{no_run}
-use Rattle.a429_contradiction.proofs.contradiction.what_contradicts_has_no_run.Goals as goal
+use Rattle.a429_contradiction.proofs.laws.what_contradicts_has_no_run.Goals as goal
 
 pub returns : goal.returns
 returns c = λ p items i reason is h. no_run p items i reason
