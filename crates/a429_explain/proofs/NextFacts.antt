@@ -1,10 +1,20 @@
 -- Lines that are likely after others: those of words of a block that are sent and taken.
-use Rattle.std.proofs.Common.{◌≡◌, ◌<◌, ◌≤◌, ℕ, zero, suc, ◌+◌, ◌-◌, List, ◌++◌, true, nat_lt, sym, ap, refl, ◌∙◌, subst, arith, append_assoc, append-nil}
+use Rattle.std.proofs.Common.{◌≡◌, ◌<◌, ◌≤◌, ℕ, zero, suc, ◌+◌, ◌-◌, List, [], ◌∷◌, ◌++◌, true, nat_lt, sym, ap, refl, ◌∙◌, subst, arith, append_assoc, append-nil}
 use Rattle.std.proofs.lemmas.Bool.Decides.{nat_tests}
+use Rattle.std.proofs.lemmas.Fmt.{decimal_digit}
+use Rattle.std.specs.Fmt.{decimal}
+use Rattle.std.specs.Prelude.{codes}
+use Rattle.a429_link.specs.declared.state.SinkState.TheVariants.{OwesClear, OwesAck}
+use Rattle.a429_link.specs.declared.state.SourceState.{SourceState}
+use Rattle.a429_link.specs.declared.state.SourceState.TheVariants.{Awaiting, Waiting}
+use Rattle.a429_cert.specs.declared.act.Act.{Act}
+use Rattle.a429_cert.specs.declared.act.Act.TheVariants.{Sent, SinkTakes, Answered, TakeAnswer}
 use Rattle.a429_cert.specs.declared.line.CertLine.TheVariants.{Moved}
 use Rattle.a429_cert.specs.declared.line.MovedLine.{MovedLine}
+use Rattle.a429_cert.specs.Act.{act_text}
+use Rattle.a429_cert.specs.Field.{field}
 use Rattle.a429_cert.specs.BlockText.{word_lines, block_lines}
-use Rattle.a429_explain.specs.Next.{carried, sending, next_line}
+use Rattle.a429_explain.specs.Next.{carried, moves, next_after, next_line, sending, takes}
 use Rattle.a429_explain.specs.Note.{line_after, likely_lines, last_line}
 
 -- ---- one word
@@ -101,3 +111,57 @@ pub word_last : (first last : MovedLine) (more place : ℕ)
     → place < 254 → last ≡ last_line first more → last ≡ carried place → carried (place + 1) ≡ last_line first (more + 2)
 word_last first last more place less is here =
     sym (last_both first more 2 ∙ ap (λ (l : MovedLine). last_line l 2) (sym is ∙ here) ∙ block_last place 1 (omega (arith, less)))
+
+-- ---- lines that are the same each time
+
+sent_next : (m : MovedLine) (source : SourceState)
+    → m.act ≡ Sent → m.states.source ≡ source → next_line m ≡ moves SinkTakes source (takes source m.states.sink) 0 0
+sent_next m source is at =
+    ap (λ (a : Act). next_after a m.states.source m.states.sink m) is
+    ∙ ap (λ (s : SourceState). moves SinkTakes s (takes s m.states.sink) 0 0) at
+
+likely_from : (m l : MovedLine) (n : ℕ) → next_line m ≡ l → likely_lines m (suc n) ≡ line_after (Moved l) ++ likely_lines l n
+likely_from m l n next = ap (λ (k : MovedLine). line_after (Moved k) ++ likely_lines k n) next
+
+-- a line with these texts, begun with the line feed before it
+abbrev line_text : Act → List ℕ → List ℕ → List ℕ → List ℕ → List ℕ
+line_text act source sink to_sink to_source = 10 ∷ (act_text act ++ field source ++ field sink ++ field to_sink ++ field to_source)
+
+-- what begins with the texts of 0 and 1
+with_digits : (text : List ℕ → List ℕ → List ℕ) → text (decimal 0) (decimal 1) ≡ text (48 ∷ []) (49 ∷ [])
+with_digits text =
+    ap (λ (t : List ℕ). text t (decimal 1)) (decimal_digit 0 (omega arith))
+    ∙ ap (λ (t : List ℕ). text (48 ∷ []) t) (decimal_digit 1 (omega arith))
+
+-- after a request that is on its way: up to the start word, which is taken
+abbrev after_request : MovedLine
+after_request = moves SinkTakes Awaiting OwesClear 0 0
+
+abbrev request_text : List ℕ → List ℕ → List ℕ
+request_text of_0 of_1 =
+    line_text SinkTakes (codes "C") (codes "c") of_0 of_0
+    ++ (line_text Answered (codes "C") (codes "G") of_0 of_1
+    ++ (line_text TakeAnswer (codes "S" ++ of_0) (codes "G") of_0 of_0
+    ++ (line_text Sent (codes "S" ++ of_1) (codes "G") of_1 of_0
+    ++ (line_text SinkTakes (codes "S" ++ of_1) (codes "B" ++ of_1) of_0 of_0 ++ []))))
+
+pub request_likely : (m : MovedLine)
+    → m.act ≡ Sent → m.states.source ≡ Awaiting → likely_lines m 5 ≡ request_text (48 ∷ []) (49 ∷ [])
+request_likely m is at =
+    let text : line_after (Moved after_request) ++ likely_lines after_request 4 ≡ request_text (decimal 0) (decimal 1) = refl in
+    likely_from m after_request 4 (sent_next m Awaiting is at) ∙ text ∙ with_digits request_text
+
+-- after an end word that is on its way: up to the acknowledgement, which is taken
+abbrev after_end : MovedLine
+after_end = moves SinkTakes Waiting OwesAck 0 0
+
+abbrev end_text : List ℕ → List ℕ → List ℕ
+end_text of_0 of_1 =
+    line_text SinkTakes (codes "W") (codes "A") of_0 of_0
+    ++ (line_text Answered (codes "W") (codes "Q") of_0 of_1 ++ (line_text TakeAnswer (codes "I") (codes "Q") of_0 of_0 ++ []))
+
+pub end_likely : (m : MovedLine)
+    → m.act ≡ Sent → m.states.source ≡ Waiting → likely_lines m 3 ≡ end_text (48 ∷ []) (49 ∷ [])
+end_likely m is at =
+    let text : line_after (Moved after_end) ++ likely_lines after_end 2 ≡ end_text (decimal 0) (decimal 1) = refl in
+    likely_from m after_end 2 (sent_next m Waiting is at) ∙ text ∙ with_digits end_text

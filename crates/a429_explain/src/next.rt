@@ -144,6 +144,13 @@ pub(crate) fn carried(words: u8) -> MovedLine
     )
 }
 
+/// The line with which the source takes the answer to a block that the sink has taken.
+pub(crate) fn acknowledged() -> MovedLine
+    ensures { result ≡ moves Act.TakeAnswer SourceState.Idle SinkState.Quiet 0 0 }
+{
+    moves(Act::TakeAnswer, SourceState::Idle, SinkState::Quiet, 0, 0)
+}
+
 /// Words of a block, each sent and then taken: so many from this place on, counted from 0.
 #[derive(Clone, Copy)]
 pub(crate) struct BlockWords {
@@ -177,7 +184,7 @@ pub(crate) fn is_same(one: MovedLine, other: MovedLine) -> bool
     is_act(one.act, other.act) && are_states(one.states, other.states)
 }
 
-fn is_act(one: Act, other: Act) -> bool
+pub(crate) fn is_act(one: Act, other: Act) -> bool
     ensures { result ≡ true → one ≡ other }
 {
     one == other

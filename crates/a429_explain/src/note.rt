@@ -10,8 +10,8 @@ ghost use Rattle.a429_cert.specs.declared.line.CertLine.TheVariants as cert;
 ghost use Rattle.a429_cert.specs.declared.line.MovedLine.{MovedLine};
 ghost use Rattle.a429_explain.specs.Note.{line_after, same_fields, likely_lines, last_line, load_head, note_text, number_in, lost_head, rest_lines, EndsWith};
 
-use crate::next::{carried, lost, next_line, words_after};
-use a429_cert::{BlockText, MovedLine, ShortText, moved_text, word_field};
+use crate::next::{acknowledged, carried, is_act, lost, next_line, words_after};
+use a429_cert::{Act, BlockText, MovedLine, ShortText, moved_text, word_field};
 use a429_link::{SourceState, States};
 use a429_word::{Sheet, Word};
 use std::io::Write;
@@ -227,8 +227,46 @@ struct Put {
     last: MovedLine,
 }
 
-// Puts some of so many lines after this one, each the one that is likely after the last: those of words of a block at once,
-// or else the first.
+// Lines whose text is the same each time.
+#[derive(Clone, Copy)]
+struct Known {
+    text: &'static [u8],
+    put: Put,
+}
+
+// The lines that are likely after that of a request, up to the one with which the sink takes the start word, or after that of an end
+// word, up to the one with which the source takes the acknowledgement; where `left` are as many.
+#[inline(always)]
+fn known_after(line: MovedLine, left: u8) -> Option<Known>
+    ensures text { IfSome result (λ known. known.text.now ≡ likely_lines line known.put.lines) }
+    ensures last { IfSome result (λ known. known.put.last ≡ last_line line known.put.lines) }
+    ensures some { IfSome result (λ known. 0 < known.put.lines) }
+    ensures few { IfSome result (λ known. known.put.lines ≤ left) }
+{
+    if !is_act(line.act, Act::Sent) {
+        return None;
+    }
+    match line.states.source {
+        SourceState::Awaiting if left >= 5 => Some(Known {
+            text: b"\nk C c 0 0\nb C G 0 1\ng S0 G 0 0\na S1 G 1 0\nk S1 B1 0 0",
+            put: Put {
+                lines: 5,
+                last: carried(1),
+            },
+        }),
+        SourceState::Waiting if left >= 3 => Some(Known {
+            text: b"\nk W A 0 0\nb W Q 0 1\ng I Q 0 0",
+            put: Put {
+                lines: 3,
+                last: acknowledged(),
+            },
+        }),
+        _ => None,
+    }
+}
+
+// Puts some of so many lines after this one, each the one that is likely after the last: those of words of a block, or others of a known
+// text, at once, or else the first.
 #[inline(always)]
 fn put_some<W: Write>(sheet: &mut Sheet<'_, W>, block: &BlockText, line: MovedLine, left: u8) -> Put
     requires { 0 < left }
@@ -243,6 +281,10 @@ fn put_some<W: Write>(sheet: &mut Sheet<'_, W>, block: &BlockText, line: MovedLi
             lines: 2 * words.count,
             last: carried(words.place + words.count),
         };
+    }
+    if let Some(known) = known_after(line, left) {
+        sheet.put(known.text);
+        return known.put;
     }
     let last = next_line(line);
     put_move(sheet, last);
