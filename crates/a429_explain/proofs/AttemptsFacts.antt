@@ -1,6 +1,6 @@
 -- The roles of a recording's words, from the last to the first.
-use Rattle.std.proofs.Common.{◌≡◌, ℕ, zero, suc, ◌+◌, ◌<◌, ◌≤◌, List, [], ◌∷◌, ◌++◌, length, drop, get_or, reverse, slice_get, Option, Some, None, refl, sym, ap, ◌∙◌, subst, arith}
-use Rattle.std.proofs.lemmas.List.{reverse-append}
+use Rattle.std.proofs.Common.{◌≡◌, ℕ, zero, suc, ◌+◌, ◌<◌, ◌≤◌, List, [], ◌∷◌, length, drop, get_or, set, slice_get, Option, Some, None, false, refl, sym, ap, ◌∙◌, subst, arith}
+use Rattle.std.proofs.lemmas.List.{drop-set, drop_all, length-map, length-set}
 use Rattle.a429_profile.specs.declared.codes.Codes.{Codes}
 use Rattle.a429_ldu.specs.declared.forms.Form.{Form}
 use Rattle.a429_ldu.specs.declared.forms.Form.TheVariants.{Rts, Cts, Ack, Nak, Sot, Part, Eot}
@@ -28,28 +28,55 @@ IsOfBlock (Some (Part semis)) = Unit {0}
 IsOfBlock (Some (Eot flags check)) = Unit {0}
 IsOfBlock _ = ⊥
 
--- where the pass has come to
+-- where the pass has come to: from this place on each word has its role
 pub record Stands (said : List (Option Form)) (left : ℕ) (found : List Role) (ahead : Ahead) : Type 0 where
-  pub found_is : reverse found ≡ roles (drop left said)
+  pub found_is : drop left found ≡ roles (drop left said)
   pub ahead_is : IsAhead (drop left said) ahead
   pub inside : left ≤ length said
+  pub length_is : length found ≡ length said
+
+-- before the first
+pub stands_first : (c : Codes) (items : List Seen) (found : List Role)
+    → length found ≡ length items
+    → Stands (forms_of c items) (length items) found (record { sends_block = false; attempt = None; start = None })
+stands_first c items found all =
+    let same : length (forms_of c items) ≡ length items = length-map items (λ (i : Seen). form_of c i.bus i.word) in
+    let end : drop (length items) (forms_of c items) ≡ [] = drop_all (length items) (forms_of c items) (omega (arith, same)) in
+    let none : drop (length items) found ≡ [] = drop_all (length items) found (omega (arith, all)) in
+    record {
+      found_is = none ∙ ap roles (sym end);
+      ahead_is =
+          subst (λ (xs : List (Option Form)). IsAhead xs (record { sends_block = false; attempt = None; start = None })) (sym end)
+          (record { sends_is = refl; attempt_is = refl; start_is = refl });
+      inside = omega (arith, same);
+      length_is = all ∙ sym same;
+    }
 
 -- a word before it has its role
 pub stands_next : (c : Codes) (items : List Seen) (n left : ℕ) (h : DecodedWord) (found new : List Role) (ahead next : Ahead) (r : Role)
     → n + 1 ≡ left → IsHeardAt c items n h → ((more : List (Option Form)) → IsAhead more ahead → r ≡ role_of h.form more)
-    → ((more : List (Option Form)) → IsAhead more ahead → IsAhead (h.form ∷ more) next) → new ≡ found ++ r ∷ []
+    → ((more : List (Option Form)) → IsAhead more ahead → IsAhead (h.form ∷ more) next) → new ≡ set found n r
     → Stands (forms_of c items) left found ahead → Stands (forms_of c items) n new next
-stands_next c items n left h found new ahead next r l k role goes pushed s =
+stands_next c items n left h found new ahead next r l k role goes written s =
     let forms = forms_of c items in
     let here : drop n forms ≡ h.form ∷ drop left forms = forms_from c items n h k ∙ ap (λ (m : ℕ). h.form ∷ drop m forms) l in
     let inside = s.inside in
+    let all = s.length_is in
     record {
       found_is =
-          ap reverse pushed ∙ reverse-append found (r ∷ []) ∙ ap (λ (q : Role). q ∷ reverse found) (role (drop left forms) s.ahead_is)
+          ap (drop n) written ∙ drop-set found n r (omega (arith, l, inside, all))
+          ∙ ap (λ (m : ℕ). r ∷ drop m found) l
+          ∙ ap (λ (q : Role). q ∷ drop left found) (role (drop left forms) s.ahead_is)
           ∙ ap (λ (rs : List Role). role_of h.form (drop left forms) ∷ rs) s.found_is ∙ ap roles (sym here);
       ahead_is = subst (λ (xs : List (Option Form)). IsAhead xs next) (sym here) (goes (drop left forms) s.ahead_is);
       inside = omega (arith, l, inside);
+      length_is = ap length written ∙ length-set found n r ∙ all;
     }
+
+-- and at the end
+pub stands_last : (said : List (Option Form)) (left : ℕ) (found : List Role) (ahead : Ahead)
+    → left ≡ 0 → Stands said left found ahead → found ≡ roles said
+stands_last said left found ahead none s = subst (λ (n : ℕ). drop n found ≡ roles (drop n said)) none s.found_is
 
 -- each word has its role
 pub length-roles : (c : Codes) (items : List Seen) → length (roles (forms_of c items)) ≡ length items

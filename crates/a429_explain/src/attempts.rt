@@ -58,7 +58,7 @@ pub(crate) struct Ahead {
 pub fn roles(alloc: Global, decoded: &Decoded) -> Result<Vec<Role>, AllocError>
     ensures { IfOk result (λ found. found.items ≡ roles (forms_of decoded.now.profile.codes decoded.now.items)) }
 {
-    let mut found = Vec::with_capacity(alloc, decoded.len())?;
+    let mut found = vec![in alloc; Role::Free; decoded.len()]?;
     let mut ahead = Ahead {
         sends_block: false,
         attempt: None,
@@ -68,10 +68,9 @@ pub fn roles(alloc: Global, decoded: &Decoded) -> Result<Vec<Role>, AllocError>
     while left > 0 {
         left -= 1;
         let form = decoded.word(left).form;
-        found.push(role_of(&form, ahead))?;
+        found[left] = role_of(&form, ahead);
         ahead = before(&form, ahead);
     }
-    found.reverse();
     Ok(found)
 }
 
