@@ -114,8 +114,9 @@ load_whole front u =
     ∙ ap (λ (t : List ℕ). front ++ 10 ∷ t)
     (joined (codes "L") (field (numeral 16 1 u.gfi)) (field (numeral 16 1 u.flags)) (field (numeral 16 4 u.check)) (word_fields u.words))
 
--- its parts, as they are put
-pub head_is : (gfi flags check : ℕ)
-    → (10 ∷ 76 ∷ []) ++ (field (numeral 16 1 gfi) ++ (field (numeral 16 1 flags) ++ field (numeral 16 4 check))) ≡ load_head gfi flags check
+-- its head, byte by byte
+pub head_is : (gfi flags check : ℕ) (g f k : List ℕ) → g ≡ hex_text gfi → f ≡ hex_text flags → k ≡ hex_text check
+    → 10 ∷ 76 ∷ 32 ∷ get_or g 7 0 ∷ 32 ∷ get_or f 7 0 ∷ 32 ∷ get_or k 4 0 ∷ get_or k 5 0 ∷ get_or k 6 0 ∷ get_or k 7 0 ∷ []
+    ≡ load_head gfi flags check
 unfolding numeral
-head_is gfi flags check = refl
+head_is gfi flags check g f k of_gfi of_flags of_check = rw (of_gfi, of_flags, of_check) refl

@@ -2,7 +2,7 @@
 
 ghost use Rattle.std.specs.Prelude.{◌≡◌, ◌<◌, ◌≤◌, ◌-◌, ◌++◌, IfSome};
 ghost use Rattle.std.specs.Fmt.{decimal};
-ghost use Rattle.a429_word.specs.Digits.{hex_text, numeral};
+ghost use Rattle.a429_word.specs.Digits.{hex_text};
 ghost use Rattle.a429_word.specs.Sheet.{Says};
 ghost use Rattle.a429_cert.specs.Field.{field};
 ghost use Rattle.a429_cert.specs.States.{sink_text};
@@ -136,20 +136,12 @@ fn put_first<W: Write>(sheet: &mut Sheet<'_, W>, file: u8)
 fn put_load<W: Write>(sheet: &mut Sheet<'_, W>, gfi: u8, flags: u8, check: u32)
     ensures { Says W.contents sheet.old sheet.new (load_head gfi flags check) }
 {
-    sheet.put(b"\nL");
-    put_hex(sheet, u32::from(gfi), 1);
-    put_hex(sheet, u32::from(flags), 1);
-    put_hex(sheet, check, 4);
-}
-
-// Puts a field with the last digits of a number in hexadecimal, at most eight.
-fn put_hex<W: Write>(sheet: &mut Sheet<'_, W>, number: u32, digits: usize)
-    requires { digits ≤ 8 }
-    ensures { Says W.contents sheet.old sheet.new (field (numeral 16 digits number)) }
-{
-    let hex = Word::from_u32(number).hex();
-    sheet.put(b" ");
-    sheet.put(&hex[8 - digits..]);
+    let gfi = Word::from_u32(u32::from(gfi)).hex();
+    let flags = Word::from_u32(u32::from(flags)).hex();
+    let check = Word::from_u32(check).hex();
+    sheet.put(&[
+        b'\n', b'L', b' ', gfi[7], b' ', flags[7], b' ', check[4], check[5], check[6], check[7],
+    ]);
 }
 
 // Puts the field of a word so many times.
