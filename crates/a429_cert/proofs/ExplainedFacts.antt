@@ -9,6 +9,7 @@ use Rattle.a429_link.specs.declared.step.Step.{Step}
 use Rattle.a429_link.specs.Step.{Can, after, label}
 use Rattle.a429_link.specs.State.{start, State}
 use Rattle.a429_link.specs.Run.{IsRun, end_of, with_label, trace, delivered, offered, settled, IsSubsequenceOf}
+use Rattle.a429_link.proofs.Contradictions.{next_item}
 use Rattle.a429_link.proofs.MessageRead.{is_read}
 use Rattle.a429_link.proofs.SinkFromTrace.{same_delivered}
 use Rattle.a429_link.proofs.RunCrossing.{delivered_subsequence, settled_subsequence}
@@ -30,11 +31,6 @@ use Rattle.a429_cert.specs.Passing.{uses, MakesStep, PassesText}
 use Rattle.a429_cert.specs.Change.{change}
 
 -- ---- lists
-
-pub step_and_report : {X : Type 0} (k : ℕ) (w : X) (ys : List X) → slice_get ys k ≡ Some w → take (suc k) ys ≡ take k ys ++ w ∷ []
-step_and_report k w [] e = absurd (cc e)
-step_and_report zero w (y ∷ ys) e = let same : y ≡ w = cc in ap (λ v. v ∷ []) same
-step_and_report (suc k) w (y ∷ ys) e = ap (λ (l : List _). y ∷ l) (step_and_report k w ys e)
 
 -- the first of what is left
 pub drop_get : {X : Type 0} (xs : List X) (k : ℕ) → slice_get (drop k xs) 0 ≡ slice_get xs k
@@ -82,13 +78,13 @@ act_used : (x : Act) (a : Step) (items : List Seen) (i : ℕ) (next : Option See
     → slice_get items i ≡ next → step_with x next ≡ Some a → take (i + uses_of x) items ≡ take i items ++ trace (a ∷ [])
 act_used act.Sent a items i None g e = absurd (cc e)
 act_used act.Sent a items i (Some w) g e = subst (λ b. take (i + 1) items ≡ take i items ++ trace (b ∷ [])) (some_is _ a e)
-    (let n : i + 1 ≡ suc i = omega arith in rw n (step_and_report i w items g))
+    (let n : i + 1 ≡ suc i = omega arith in rw n (next_item i w items g))
 act_used act.Answered a items i None g e = absurd (cc e)
 act_used act.Answered a items i (Some w) g e = subst (λ b. take (i + 1) items ≡ take i items ++ trace (b ∷ [])) (some_is _ a e)
-    (let n : i + 1 ≡ suc i = omega arith in rw n (step_and_report i w items g))
+    (let n : i + 1 ≡ suc i = omega arith in rw n (next_item i w items g))
 act_used act.FreeSeen a items i None g e = absurd (cc e)
 act_used act.FreeSeen a items i (Some w) g e = subst (λ b. take (i + 1) items ≡ take i items ++ trace (b ∷ [])) (some_is _ a e)
-    (let n : i + 1 ≡ suc i = omega arith in rw n (step_and_report i w items g))
+    (let n : i + 1 ≡ suc i = omega arith in rw n (next_item i w items g))
 act_used act.SentLost a items i next g e = subst (λ b. take (i + 0) items ≡ take i items ++ trace (b ∷ [])) (some_is _ a e)
     (let n : i + 0 ≡ i = omega arith in rw n (sym (append-nil (take i items))))
 act_used act.TimeOut a items i next g e = subst (λ b. take (i + 0) items ≡ take i items ++ trace (b ∷ [])) (some_is _ a e)
@@ -164,7 +160,7 @@ passed p from lines items k i text l s t g is inside h (Some a) e m q =
     record {
       reached = record {
         steps = h.steps ++ a ∷ [];
-        lists = rw (step_and_report k (Some text) lines g) (lists_push p (take k lines) h.steps from text a h.lists here);
+        lists = rw (next_item k (Some text) lines g) (lists_push p (take k lines) h.steps from text a h.lists here);
         used = trace_push h.steps a ∙ ap (λ (l : List Seen). l ++ trace (a ∷ [])) h.used ∙ sym (line_used l a items i e);
         ends = same ∙ sym (end_push p h.steps a from);
       };

@@ -32,7 +32,7 @@ use Rattle.a429_cert.specs.declared.line.MovedLine.{MovedLine}
 use Rattle.a429_cert.specs.declared.act.Act.TheVariants.{Sent, SinkTakes}
 use Rattle.a429_cert.specs.declared.listed.Listed.TheVariants as listed
 use Rattle.a429_cert.specs.declared.shelf.PutFile.{PutFile}
-use Rattle.a429_cert.specs.declared.stream.Replay.{Replay}
+use Rattle.a429_cert.specs.declared.replay.Replay.{Replay}
 use Rattle.a429_cert.specs.declared.version.Version.{Version}
 use Rattle.a429_cert.specs.Change.{change}
 use Rattle.a429_cert.specs.CutLines.{cut, GivesLine}

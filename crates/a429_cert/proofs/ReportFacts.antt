@@ -36,7 +36,7 @@ use Rattle.a429_cert.specs.declared.fault.CertFault.{CertFault}
 use Rattle.a429_cert.specs.declared.fault.CertFault.TheVariants as of
 use Rattle.a429_cert.specs.declared.stream_fault.StreamFault.{StreamFault}
 use Rattle.a429_cert.specs.declared.stream_fault.StreamFault.TheVariants as stream
-use Rattle.a429_cert.specs.declared.stream.Replay.{Replay}
+use Rattle.a429_cert.specs.declared.replay.Replay.{Replay}
 use Rattle.a429_cert.specs.Stream.{left_after, next_of, PassesOver, TakesNext, RefusesNext, EndsNext, IsNotTaken, of_cert}
 use Rattle.a429_cert.specs.StreamExplained.{WhereBothKnown}
 use Rattle.a429_cert.specs.Report.{listening, position, Report, Loads, Makes, with_number, report_of, reports_of_steps, reports_of_run, Hearing, IsHeard, report_of_listed, entry_used, HearsListed, HearsText}

@@ -22,7 +22,7 @@ use Rattle.a429_cert.specs.declared.explained.Head.{Head}
 use Rattle.a429_cert.specs.declared.fault.CertFault.{CertFault}
 use Rattle.a429_cert.specs.declared.fault.CertFault.TheVariants as of
 use Rattle.a429_cert.specs.declared.shelf.PutFile.{PutFile}
-use Rattle.a429_cert.specs.declared.stream.Replay.{Replay}
+use Rattle.a429_cert.specs.declared.replay.Replay.{Replay}
 use Rattle.a429_cert.specs.declared.stream_fault.StreamFault.{StreamFault}
 use Rattle.a429_cert.specs.declared.stream_fault.StreamFault.TheVariants as stream
 use Rattle.a429_cert.specs.Change.{change}

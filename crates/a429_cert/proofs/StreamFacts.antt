@@ -19,7 +19,7 @@ use Rattle.a429_cert.specs.Explained.{seen_of, step_of}
 use Rattle.a429_record.specs.declared.entry.Entry.{Entry}
 use Rattle.a429_record.specs.declared.fault.ReadFault.{ReadFault}
 use Rattle.a429_record.specs.declared.fault.ReadFault.TheVariants as read
-use Rattle.a429_cert.specs.declared.stream.Replay.{Replay}
+use Rattle.a429_cert.specs.declared.replay.Replay.{Replay}
 use Rattle.a429_cert.specs.Fault.{at_line, CanBe, IsNamed}
 use Rattle.a429_cert.specs.Passing.{uses, uses_listed, IsStepOfLine, MakesStep, PassesListed, IsFaultOfRead, RefusesListed, RefusesFirst, Lists, IsReady, IsReadyOf, IsNamedOf}
 use Rattle.a429_cert.specs.declared.stream_fault.StreamFault.{StreamFault}

@@ -7,7 +7,7 @@ use Rattle.a429_record.specs.Recording.{Recording}
 use Rattle.a429_record.specs.Entries.{EntriesLeft}
 use Rattle.a429_cert.specs.declared.explained.Head.{Head}
 use Rattle.a429_cert.specs.declared.shelf.PutFile.{PutFile}
-use Rattle.a429_cert.specs.declared.stream.Replay.{Replay}
+use Rattle.a429_cert.specs.declared.replay.Replay.{Replay}
 use Rattle.a429_cert.specs.declared.stream_fault.StreamFault.{StreamFault}
 use Rattle.a429_cert.specs.CutLines.{GivesLine}
 use Rattle.a429_cert.specs.Version.{read_as, step_lines}

@@ -5,7 +5,7 @@ use Rattle.a429_link.specs.Carry.{on_a, after_both}
 use Rattle.a429_record.specs.declared.entry.Entry.{Entry}
 use Rattle.a429_record.specs.Recording.{Recording}
 use Rattle.a429_cert.specs.declared.act.Act.TheVariants.{Sent, SinkTakes}
-use Rattle.a429_cert.specs.declared.stream.Replay.{Replay}
+use Rattle.a429_cert.specs.declared.replay.Replay.{Replay}
 use Rattle.a429_cert.specs.Stream.{left_after, next_of}
 use Rattle.a429_cert.specs.Report.{Listening, Makes, with_number}
 

@@ -18,7 +18,7 @@ use Rattle.a429_word.specs.declared.trouble.Trouble.{Trouble}
 use Rattle.a429_word.specs.declared.trouble.Trouble.TheVariants as trouble
 use Rattle.a429_cert.specs.declared.at.At.{At}
 use Rattle.a429_cert.specs.declared.listed.Listed.{Listed}
-use Rattle.a429_cert.specs.declared.stream.Replay.{Replay}
+use Rattle.a429_cert.specs.declared.replay.Replay.{Replay}
 use Rattle.a429_cert.specs.declared.line.CertLine.{CertLine}
 use Rattle.a429_cert.specs.declared.shelf.PutFile.{PutFile}
 use Rattle.a429_link.specs.declared.file.FileBytes.{FileBytes}

@@ -19,6 +19,7 @@ mod listener;
 mod pair;
 mod passing;
 mod reading;
+mod replay;
 mod series;
 mod shelf;
 mod short;

@@ -18,7 +18,7 @@ use crate::fault::CertFault;
 use crate::likely::WordLines;
 use crate::line_reader::LineReader;
 use crate::listener::Listener;
-use crate::stream::{Replay, numbered};
+use crate::replay::{Replay, numbered};
 use crate::stream_fault::{StreamFault, of_read, of_trouble};
 use a429_link::{Link, NextWord};
 use a429_profile::Profile;

@@ -1,14 +1,16 @@
 -- Entries that come one by one.
-use Rattle.std.proofs.Common.{◌≡◌, List, [], ◌++◌, append-nil, Bool, Option, Some, None, Err, ap, ◌∙◌}
+use Rattle.std.proofs.Common.{◌≡◌, ◌≢◌, ℕ, List, [], ◌++◌, append-nil, Bool, true, Option, Some, None, Err, absurd, refl, ap, ◌∙◌}
 use Rattle.std.specs.Prelude.{IfSome}
 use Rattle.a429_record.specs.declared.entry.Entry.{Entry}
 use Rattle.a429_record.specs.declared.fault.ReadFault.{ReadFault}
 use Rattle.a429_record.specs.declared.fault.ReadFault.TheVariants as read
+use Rattle.a429_record.specs.Fault.{IsFirstReadFault}
 use Rattle.a429_record.specs.Recording.{Recording}
 use Rattle.a429_record.specs.Rows.{GivesNext}
 use Rattle.a429_commands.specs.declared.fault.RunFault.{RunFault}
 use Rattle.a429_commands.specs.declared.fault.RunFault.TheVariants as run
 use Rattle.a429_parts.proofs.KeepingFacts.{Came}
+use Rattle.a429_commands.specs.Recording.{IsReadFault}
 use Rattle.a429_commands.specs.Streaming.{AreAllBefore, IsFaultToCome, IsNextFault, reported}
 
 -- no entry comes before the fault that is the answer
@@ -74,3 +76,15 @@ next_earlier first left es failed run.NoPlace h is = is
 next_earlier first left es failed run.OldFiles h is = is
 next_earlier first left es failed (run.Map f) h is = is
 next_earlier first left es failed (run.Export f) h is = is
+
+-- a fault of a recording that is read whole, as it is reported
+pub whole_fault : (known : Option (List ℕ)) (failed : Bool) (f : ReadFault)
+    → IfSome known (λ bytes. IsFirstReadFault f bytes) → (f ≡ read.Device → failed ≡ true) → f ≢ read.Failed
+    → IsReadFault known failed (reported f)
+whole_fault known failed read.Header first device none = first
+whole_fault known failed (read.Row i) first device none = first
+whole_fault known failed (read.TimeBack i) first device none = first
+whole_fault known failed read.TooMany first device none = first
+whole_fault known failed read.Device first device none = device refl
+whole_fault known failed read.OutOfMemory first device none = tt
+whole_fault known failed read.Failed first device none = absurd (none refl)

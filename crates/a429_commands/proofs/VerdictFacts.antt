@@ -3,6 +3,7 @@ use Rattle.std.proofs.Common.{◌≡◌, ◌⊎◌, ◌||◌, ◌∙◌, ◌++�
 use Rattle.std.specs.Result.{OnOk}
 use Rattle.a429_cert.specs.Stream.{OneFailed}
 use Rattle.a429_profile.specs.Profile.{Contents}
+use Rattle.a429_record.specs.declared.fault.ReadFault.{ReadFault}
 use Rattle.a429_record.specs.declared.fault.ReadFault.TheVariants as read
 use Rattle.a429_cert.specs.declared.shelf.PutFile.{PutFile}
 use Rattle.a429_cert.specs.declared.stream_fault.StreamFault.{StreamFault}
@@ -18,6 +19,7 @@ use Rattle.a429_commands.specs.declared.engines.verdict.Judged.{Judged}
 use Rattle.a429_commands.specs.declared.fault.RunFault.{RunFault}
 use Rattle.a429_commands.specs.declared.fault.RunFault.TheVariants as run
 use Rattle.a429_commands.specs.Profile.{IsProfileOf, IsProfileFault, profile_causes}
+use Rattle.a429_commands.specs.Streaming.{reported}
 use Rattle.a429_commands.specs.Verdict.{HasAnswer, HearsAnswer, HearsUntil, Input, IsAnswerOf, IsAnswered, IsJudged, IsNoAnswer, IsVerdict, IsVerifyFault, Judges, Rejects, SaysAnswer, no, of_stream, of_verdict, status_of_answer, text_of_answer, verify_causes, yes}
 use Rattle.a429_view.specs.Verdict.{no_text}
 use Rattle.a429_cert.specs.Change.{change}
@@ -241,3 +243,13 @@ pub none_of_profile : (failed : Bool) (r : Result (Vec (ℕ × ℕ) Global) Stre
     → IsNoAnswer failed r e → e ≡ run.Profile f → ⊥
 none_of_profile failed r e f (inl h) is = cc (h.1, is)
 none_of_profile failed r e f (inr (_, (g, same, fault))) is = no_profile g f (sym fault ∙ is)
+
+-- that of a stream is reported as one that is met entry by entry
+pub stream_fault : (f : ReadFault) → reported f ≡ of_stream (stream.Read f)
+stream_fault read.Header = refl
+stream_fault (read.Row i) = refl
+stream_fault (read.TimeBack i) = refl
+stream_fault read.TooMany = refl
+stream_fault read.Device = refl
+stream_fault read.OutOfMemory = refl
+stream_fault read.Failed = refl

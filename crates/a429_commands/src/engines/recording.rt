@@ -5,8 +5,9 @@ ghost use Rattle.a429_word.specs.Tally.{has_failed, unread};
 ghost use Rattle.a429_record.specs.Recording.{stands_for, whole, IsRecordable};
 ghost use Rattle.a429_commands.specs.Recording.{IsReadFault};
 
+use crate::engines::streaming::fault_of;
 use crate::fault::RunFault;
-use a429_record::{Entry, ReadFault, read_entries};
+use a429_record::{Entry, read_entries};
 use a429_word::Tally;
 use std::alloc::Global;
 use std::io::Read;
@@ -20,8 +21,6 @@ pub(crate) fn entries_of<R: Read>(alloc: Global, rec: &mut Tally<R>) -> Result<V
 {
     match read_entries(alloc, rec) {
         Ok(entries) => Ok(entries),
-        Err(ReadFault::Device) => Err(RunFault::Device),
-        Err(ReadFault::OutOfMemory) => Err(RunFault::Memory),
-        Err(fault) => Err(RunFault::Read(fault)),
+        Err(fault) => Err(fault_of(fault)),
     }
 }

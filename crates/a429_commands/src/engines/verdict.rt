@@ -10,11 +10,12 @@ ghost use Rattle.a429_commands.specs.Verdict.{text_of_answer, status_of_answer, 
 ghost use Rattle.a429_cert.specs.Report.{listening, TriesSome};
 
 use crate::engines::profile::profile_of;
+use crate::engines::streaming::fault_of;
 use crate::engines::text::Text;
 use crate::fault::RunFault;
 use a429_cert::{CertFault, Listener, Shelf, StreamFault, replay_stream};
 use a429_profile::Profile;
-use a429_record::{EntryReader, ReadFault};
+use a429_record::EntryReader;
 use a429_view::{put_no, put_yes};
 use a429_word::{Device, Failing, Page, Sheet, Tally};
 use std::alloc::Global;
@@ -107,18 +108,7 @@ pub(crate) fn of_certificate(fault: StreamFault) -> Result<CertFault, RunFault>
         ),
         StreamFault::Cert(fault) => Ok(fault),
         StreamFault::Device => Err(RunFault::Device),
-        StreamFault::Read(fault) => Err(of_recording(fault)),
-    }
-}
-
-// The fault of a command for one of its recording.
-fn of_recording(fault: ReadFault) -> RunFault
-    ensures { result ≡ of_stream (StreamFault.Read fault) }
-{
-    match fault {
-        ReadFault::Device => RunFault::Device,
-        ReadFault::OutOfMemory => RunFault::Memory,
-        _ => RunFault::Read(fault),
+        StreamFault::Read(fault) => Err(fault_of(fault)),
     }
 }
 

@@ -8,7 +8,7 @@ use Rattle.a429_cert.specs.CutLines.{GivesLine}
 use Rattle.a429_cert.specs.Likely.{pair_text, sent_text}
 use Rattle.a429_cert.specs.LineReader.{bytes_ahead}
 use Rattle.a429_cert.specs.StreamNext.{progress, TakesSome}
-use Rattle.a429_cert.specs.declared.stream.Replay.{Replay}
+use Rattle.a429_cert.specs.declared.replay.Replay.{Replay}
 use Rattle.a429_cert.proofs.PairFacts.{ended, fewer, gives_sent, least_place, takes_both}
 use Rattle.a429_cert.proofs.ReplayKept.{two_ahead}
 use Rattle.a429_cert.proofs.stream_next.take_next.Goals as goal

@@ -12,7 +12,7 @@ use Rattle.a429_cert.proofs.ReportFacts.{ends_next, not_read}
 use Rattle.a429_cert.proofs.StreamReplay.{read_device, read_no_device}
 use Rattle.a429_cert.proofs.ReplayKept.{read_unreported}
 use Rattle.a429_cert.proofs.TriesFacts.{tries_none}
-use Rattle.a429_cert.proofs.stream.step_and_report.Goals as goal
+use Rattle.a429_cert.proofs.replay.step_and_report.Goals as goal
 use Rattle.a429_cert.specs.Change.{change}
 
 pub returns-in-Load-clause-passed : goal.returns-in-Load-clause-passed

@@ -1,6 +1,6 @@
 use Rattle.std.proofs.Common.{◌≡◌, ◌++◌, ◌+◌, length, take}
 use Rattle.a429_cert.specs.Stream.{GainsAll, sizes}
-use Rattle.a429_cert.proofs.stream.put_all.Given as goal
+use Rattle.a429_cert.proofs.replay.put_all.Given as goal
 
 abbrev pub invariant-loop-file : goal.invariant-loop-file
 invariant-loop-file g l = record {

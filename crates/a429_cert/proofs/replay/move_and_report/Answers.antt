@@ -1,7 +1,7 @@
 use Rattle.std.proofs.Common.{rules}
 use Rattle.a429_cert.proofs.ReplayKept.{cert_unreported, cert_no_device, trouble_device, trouble_unreported}
 use Rattle.a429_cert.proofs.TriesFacts.{tries_none, tries_one}
-use Rattle.a429_cert.proofs.stream.move_and_report.Goals as goal
+use Rattle.a429_cert.proofs.replay.move_and_report.Goals as goal
 
 pub returns-in-Ok-make-clause-unreported : goal.returns-in-Ok-make-clause-unreported
 returns-in-Ok-make-clause-unreported g c = search rules

@@ -1,7 +1,7 @@
 use Rattle.std.proofs.Common.{rules}
 use Rattle.a429_cert.proofs.ReportFacts.{not_loaded}
 use Rattle.a429_cert.proofs.TriesFacts.{tries_none, tries_one}
-use Rattle.a429_cert.proofs.stream.load_and_report.Goals as goal
+use Rattle.a429_cert.proofs.replay.load_and_report.Goals as goal
 
 pub returns-then-not-may_load-clause-refused : goal.returns-then-not-may_load-clause-refused
 returns-then-not-may_load-clause-refused g c = λ next.

@@ -1,9 +1,9 @@
 use Rattle.std.proofs.Common.{◌∙◌, ◌++◌, ℕ, List, ap, inl, inr, refl, subst}
 use Rattle.a429_record.specs.declared.fault.ReadFault.TheVariants as read
 use Rattle.a429_cert.specs.Stream.{PutsFiles, PutsFirstFiles, sizes}
-use Rattle.a429_cert.specs.declared.stream.Replay.{Replay}
+use Rattle.a429_cert.specs.declared.replay.Replay.{Replay}
 use Rattle.a429_cert.proofs.ReplayKept.{kept_one, kept_both, none_reported, not_of_read}
-use Rattle.a429_cert.proofs.stream.replay_and_put.Goals as goal
+use Rattle.a429_cert.proofs.replay.replay_and_put.Goals as goal
 
 pub replay_and_report-requires : goal.replay_and_report-requires
 replay_and_report-requires g c = record { sound = c.requires.sound; profile = c.requires.profile; known = c.requires.known }

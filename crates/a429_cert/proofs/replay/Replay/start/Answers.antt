@@ -1,5 +1,5 @@
 use Rattle.std.proofs.Common.{rules}
-use Rattle.a429_cert.proofs.stream.Replay.start.Goals as goal
+use Rattle.a429_cert.proofs.replay.Replay.start.Goals as goal
 
 pub returns-clause-lines : goal.returns-clause-lines
 returns-clause-lines c = search rules

@@ -10,7 +10,7 @@ use Rattle.a429_cert.proofs.ReportFacts.{hears_text}
 use Rattle.a429_cert.proofs.ReplayKept.{cert_unreported, cert_no_device, cert_no_read, says_ended}
 use Rattle.a429_record.specs.declared.fault.ReadFault.TheVariants as read
 use Rattle.a429_cert.proofs.TriesFacts.{tries_none}
-use Rattle.a429_cert.proofs.stream.replay_and_report.Goals as goal
+use Rattle.a429_cert.proofs.replay.replay_and_report.Goals as goal
 use Rattle.a429_cert.specs.Report.{position}
 
 pub returns-in-Ok-clause-refused : goal.returns-in-Ok-clause-refused
