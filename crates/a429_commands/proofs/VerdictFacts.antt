@@ -1,5 +1,5 @@
 -- What is answered of a certificate, and what a command reports where there is no verdict.
-use Rattle.std.proofs.Common.{◌≡◌, ◌⊎◌, ◌||◌, ◌∙◌, ◌++◌, inl, inr, ℕ, Bool, true, false, ◌≢◌, List, length, Vec, Global, Option, Some, None, Result, Ok, Err, IfOk, IfErr, refl, sym, ap, subst}
+use Rattle.std.proofs.Common.{◌≡◌, ◌||◌, ◌∙◌, inl, inr, ℕ, Bool, true, false, ◌≢◌, List, Vec, Global, Option, Some, None, Result, Ok, Err, IfOk, IfErr, refl, sym, ap, subst}
 use Rattle.std.specs.Result.{OnOk}
 use Rattle.a429_cert.specs.Stream.{OneFailed}
 use Rattle.a429_profile.specs.Profile.{Contents}

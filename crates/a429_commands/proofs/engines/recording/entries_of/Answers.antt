@@ -1,4 +1,4 @@
-use Rattle.std.proofs.Common.{◌∙◌, ap}
+use Rattle.std.proofs.Common.{◌∙◌, ap, Err}
 use Rattle.a429_commands.proofs.StreamingFacts.{whole_fault}
 use Rattle.a429_commands.proofs.engines.recording.entries_of.Goals as goal
 
