@@ -123,25 +123,25 @@ class Attempt:
 
 
 def attempts_of(profile, entries):
-    """The attempts to send the unit of the last one, and the last one."""
-    number, kept, last = None, [], Attempt(None, 0)
+    """The attempts to send the unit of the last one, and the last one: none where the last one does not begin with a start word."""
+    number, kept, last, is_named = None, [], Attempt(None, 0), False
     for n, (bus, word, *_) in enumerate(entries):
         message = message_of(profile, bus, word)
         name = message[0] if isinstance(message, tuple) else None
         if name == "rts":
             kept.append(last)
-            last = Attempt(n, message[1])
+            last, is_named = Attempt(n, message[1]), False
         elif name == "cts":
-            last.words, last.data = [], []
+            last.words, last.data, is_named = [], [], False
         elif name == "ack" and number != message[1:]:
-            number = None
+            number, is_named = None, False
         elif name in BLOCK:
-            if name == "sot" and not last.words and number != message[2:]:
-                number, kept = message[2:], []
+            if name == "sot" and not last.words:
+                number, kept, is_named = message[2:], kept if number == message[2:] else [], True
             last.words.append(word)
             if name == "data":
                 last.data.append(word)
-    return [it for it in kept if it.request is not None], last
+    return [it for it in kept if it.request is not None and is_named], last
 
 
 def shortest(ours, others):
