@@ -1,5 +1,5 @@
 -- How a verdict of `decide` is answered (profile).
-use Rattle.std.specs.Prelude.{◌≡◌, ℕ, Bool, List, []}
+use Rattle.std.specs.Prelude.{◌≡◌, ℕ, List, [], Option}
 use Rattle.a429_profile.specs.Profile.{Contents}
 use Rattle.a429_record.specs.declared.entry.Entry.{Entry}
 use Rattle.a429_record.specs.Recording.{stands_for, whole}
@@ -13,13 +13,15 @@ use Rattle.a429_explain.specs.declared.verdict.Reason.TheVariants.{NoForm, NotGr
 use Rattle.a429_explain.specs.declared.verdict.Doubt.{Doubt}
 use Rattle.a429_explain.specs.declared.verdict.Doubt.TheVariants.{NeverWhole, NotOneBlock, NotReplayed, OutOfSteps}
 use Rattle.a429_explain.specs.Verdict.{IsSoundVerdict, IsAccepted, IsOfLeastVersion, IsDoubted}
-use Rattle.a429_search.specs.Deciding.{IsExactly, IsImpossibleBy, IsOfCheck}
+use Rattle.a429_merge.specs.declared.budget.Limit.{Limit}
+use Rattle.a429_search.specs.Deciding.{IsExact, IsImpossibleBy, IsOfCheck}
 use Rattle.a429_c.specs.Input.{IsProfileOf}
 use Rattle.a429_c.specs.Buffers.{Holds, Left, LeavesFiles}
 
 -- ---- which verdict
 
--- what `decide` says of its verdict on recorded words; whether its search was cut short is not answered, and so not whether an entry is the first
+-- what `decide` says of its verdict on recorded words; the limit by which its search was cut short, if it was, is not answered, and so not
+-- whether an entry is the first
 pub record IsDecided (p : Contents) (items : List Seen) (v : Verdict) : Type 0 where
   pub sound : IsSoundVerdict p items v
   pub accepted : IsAccepted p items v
@@ -27,8 +29,8 @@ pub record IsDecided (p : Contents) (items : List Seen) (v : Verdict) : Type 0 w
   pub impossible : IsImpossibleBy p items v
   pub doubted : IsDoubted p items v
   pub of_check : IsOfCheck p items v
-  pub is_cut : Bool
-  pub exact : IsExactly p items is_cut v
+  pub cut : Option Limit
+  pub exact : IsExact p items cut v
 
 -- it is one on the recording that these bytes are, under a profile that was read
 abbrev pub IsVerdictUnder : Contents → List ℕ → Verdict → Type 0

@@ -55,11 +55,11 @@ checked p items (Ok v) first impossible = (first, impossible)
 checked p items (Err e) first impossible = tt
 
 pub decided : (p : Contents) (items : List Seen) (r : Result Decision OutOfMemory)
-    → IfOk r (IsExact p items) → IfOk r (λ d. IsOfCheck p items d.verdict) → IfOk r (λ d. IsImpossibleBy p items d.verdict)
+    → IfOk r (λ d. IsExact p items d.cut d.verdict) → IfOk r (λ d. IsOfCheck p items d.verdict) → IfOk r (λ d. IsImpossibleBy p items d.verdict)
     → ((i : ℕ) (reason : Reason) → IsReasonAt p items i reason → IfOk r (λ d. IsImpossibleUpTo i d.verdict))
     → IfOk r (λ d. IsByRule rule.Decide p items d.verdict)
 decided p items (Ok d) exact of_check impossible first =
-    record { of_check = of_check; is_cut = d.is_cut; exact = exact; impossible = impossible; first = first }
+    record { of_check = of_check; cut = d.cut; exact = exact; impossible = impossible; first = first }
 decided p items (Err e) exact of_check impossible first = tt
 
 -- ---- what is written

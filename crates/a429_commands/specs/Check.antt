@@ -12,7 +12,8 @@ use Rattle.a429_explain.specs.declared.verdict.Reason.{Reason}
 use Rattle.a429_explain.specs.declared.verdict.Reason.TheVariants.{NoForm, NotGranted, WrongAnswer, BadBlock, WrongNumber, OtherBlock, NoRun}
 use Rattle.a429_explain.specs.declared.verdict.Doubt.{Doubt}
 use Rattle.a429_explain.specs.declared.verdict.Doubt.TheVariants.{NeverWhole, NotOneBlock, NotReplayed, OutOfSteps}
-use Rattle.a429_search.specs.Deciding.{IsExactly, IsImpossibleBy, IsImpossibleUpTo, IsOfCheck, IsReasonAt}
+use Rattle.a429_merge.specs.declared.budget.Limit.{Limit}
+use Rattle.a429_search.specs.Deciding.{IsExact, IsImpossibleBy, IsImpossibleUpTo, IsOfCheck, IsReasonAt}
 use Rattle.a429_explain.specs.Verdict.{IsSoundVerdict, IsAccepted, IsOfLeastVersion, IsImpossible, IsDoubted, IsFirst, HasNoForm, IsImpossibility, IsExplanation}
 use Rattle.a429_explain.specs.WithoutLoss.{IsWithoutLoss}
 use Rattle.a429_cert.specs.Stream.{sizes}
@@ -70,12 +71,12 @@ verdict_status (Unexplained i doubt) = 2
 -- ---- what it means
 
 -- the verdict of `decide`: an explanation of `check`, or one of words of which `check` has a doubt; impossible where no run has the words up
--- to the entry: from the first word on at which some reason holds, or by `NoRun`; or left open. The words do not say whether its search was cut
--- short: that an entry is the first says `IsNotedBy`
+-- to the entry: from the first word on at which some reason holds, or by `NoRun`; or left open. The words do not say by which limit its search
+-- was cut short, if it was: that an entry is the first says `IsNotedBy`
 pub record IsDecided (p : Contents) (items : List Seen) (v : Verdict) : Type 0 where
   pub of_check : IsOfCheck p items v
-  pub is_cut : Bool
-  pub exact : IsExactly p items is_cut v
+  pub cut : Option Limit
+  pub exact : IsExact p items cut v
   pub impossible : IsImpossibleBy p items v
   pub first : (i : ℕ) (reason : Reason) → IsReasonAt p items i reason → IsImpossibleUpTo i v
 

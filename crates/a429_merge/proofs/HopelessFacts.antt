@@ -191,10 +191,6 @@ one_more P items n s l e p h k d m = elim (is_or_before k n m) [
   | inr same ↦ subst (λ j. P (get_or items j d)) (sym same) (subst P (e ∙ get_or_default items n s d l) p)
 ]
 
-pub uncut_before : (a b : Bool) → (a ≡ true → b ≡ true) → b ≡ false → a ≡ false
-uncut_before true b h e = absurd (cc (sym (h refl) ∙ e))
-uncut_before false b h e = refl
-
 pub is_none : {X : Type 0} (o : Option X) → false ≡ is_some o → o ≡ None
 is_none None e = refl
 is_none (Some x) e = absurd (cc e)

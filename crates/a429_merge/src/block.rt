@@ -1,6 +1,6 @@
 //! The link data unit of a group.
 
-ghost use Rattle.std.specs.Prelude.{◌≡◌, ℕ, List, Ok, None, true, false, ◌↔◌, ◌≤◌, ◌+◌, IfOk, IfSome, IfNone, IsSome, IsTrue, EachIndex, length};
+ghost use Rattle.std.specs.Prelude.{◌≡◌, ℕ, List, Ok, None, ◌↔◌, ◌≤◌, ◌+◌, IfOk, IfSome, IfNone, IsSome, IsTrue, EachIndex, length};
 ghost use Rattle.a429_ldu.specs.Carried.{bytes_in};
 ghost use Rattle.a429_ldu.specs.CheckWord.{check_of};
 ghost use Rattle.a429_ldu.specs.Ldu.{LduValue, HasLength, IsLdu};
@@ -9,7 +9,7 @@ ghost use Rattle.a429_merge.specs.Fill.{Fits, AreDataOf, CanBeCompleted};
 ghost use Rattle.a429_merge.specs.Block.{check_wanted, HaveCheckWord, IsUnitOf, MayBeUnitOf, GivesUnit};
 
 use crate::bounded::search_words;
-use crate::budget::Budget;
+use crate::budget::{Budget, Limit};
 use crate::differing::differing;
 use crate::fill::Wanted;
 use crate::longest::complete_longest;
@@ -39,8 +39,8 @@ pub fn unit_of_pieces(
     requires flags { IfSome pieces.now.end (λ e. e.flags ≤ 15) }
     ensures some { IfOk result (λ found. IfSome found (λ u. IsUnitOf profile.now pieces.now u)) }
     ensures none { IfOk result (λ found. IfNone found (EachIndex pieces.now.attempts.items (λ i. ¬ GivesUnit profile.now pieces.now (words_at (lists_of pieces.now.attempts.items) i)))) }
-    ensures exact { result ≡ Ok None → budget.new.is_cut ≡ false → pieces.now.count ≤ 255 → (u : LduValue) → ¬ MayBeUnitOf profile.now pieces.now u }
-    ensures cut { budget.old.is_cut ≡ true → budget.new.is_cut ≡ true }
+    ensures exact { result ≡ Ok None → budget.new.cut ≡ None → pieces.now.count ≤ 255 → (u : LduValue) → ¬ MayBeUnitOf profile.now pieces.now u }
+    ensures cut { budget.new.cut ≡ None → budget.old.cut ≡ None }
 {
     // (for the proof: the profile is sound)
     let _codes = profile.codes();
@@ -75,21 +75,21 @@ fn data_words(
     ensures some { IfOk result (λ found. IfSome found (λ v. AreDataOf profile.now wanted.count wanted.check (lists_of attempts.now) v.items)) }
     ensures none { IfOk result (λ found. IfNone found (EachIndex attempts.now (λ i. HasEach (words_at (lists_of attempts.now) i) (lists_of attempts.now)
         → ¬ CanBeCompleted profile.now wanted.count wanted.check (words_at (lists_of attempts.now) i)))) }
-    ensures exact { result ≡ Ok None → budget.new.is_cut ≡ false → wanted.count ≤ 253 → (words : List ℕ) → ¬ AreDataOf profile.now wanted.count wanted.check (lists_of attempts.now) words }
-    ensures cut { budget.old.is_cut ≡ true → budget.new.is_cut ≡ true }
+    ensures exact { result ≡ Ok None → budget.new.cut ≡ None → wanted.count ≤ 253 → (words : List ℕ) → ¬ AreDataOf profile.now wanted.count wanted.check (lists_of attempts.now) words }
+    ensures cut { budget.new.cut ≡ None → budget.old.cut ≡ None }
 {
     let found = complete_longest(alloc, profile, attempts, wanted, budget)?;
     if found.is_some() {
         return Ok(found);
     }
-    if budget.is_spent() {
-        budget.cut();
+    if budget.runs_out() {
         return Ok(None);
     }
     match differing(alloc, attempts, budget)? {
         Some(lists) => words_of(alloc, profile, &lists, wanted, budget),
         None => {
-            budget.cut();
+            let recorded = attempts.len();
+            budget.cut(Limit::Attempts { recorded });
             Ok(None)
         }
     }
@@ -104,8 +104,8 @@ fn words_of(
     budget: &mut Budget,
 ) -> Result<Option<Vec<Word>>, AllocError>
     ensures some { IfOk result (λ found. IfSome found (λ v. AreDataOf profile.now wanted.count wanted.check (lists_of lists.now) v.items)) }
-    ensures exact { result ≡ Ok None → budget.new.is_cut ≡ false → wanted.count ≤ 253 → (words : List ℕ) → ¬ AreDataOf profile.now wanted.count wanted.check (lists_of lists.now) words }
-    ensures cut { budget.old.is_cut ≡ true → budget.new.is_cut ≡ true }
+    ensures exact { result ≡ Ok None → budget.new.cut ≡ None → wanted.count ≤ 253 → (words : List ℕ) → ¬ AreDataOf profile.now wanted.count wanted.check (lists_of lists.now) words }
+    ensures cut { budget.new.cut ≡ None → budget.old.cut ≡ None }
 {
     if let Some(merged) = merge_in_one_order(alloc, lists, budget)? {
         let found = completed_merge(alloc, profile, lists, &merged, wanted, budget)?;
@@ -113,8 +113,7 @@ fn words_of(
             return Ok(found);
         }
     }
-    if budget.is_spent() {
-        budget.cut();
+    if budget.runs_out() {
         return Ok(None);
     }
     if let Some(merged) = merge_one_by_one(alloc, lists, budget)? {

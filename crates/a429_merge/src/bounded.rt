@@ -1,11 +1,11 @@
 //! The data words of several attempts, by a search with a budget.
 
-ghost use Rattle.std.specs.Prelude.{◌≡◌, ◌≤◌, ◌<◌, ◌↔◌, ℕ, List, All, None, Ok, IfOk, IfSome, IfNone, IsTrue, SomeIndex, true, false, length};
+ghost use Rattle.std.specs.Prelude.{◌≡◌, ◌≤◌, ◌<◌, ◌↔◌, ℕ, List, All, None, Ok, IfOk, IfSome, IfNone, IsTrue, SomeIndex, length};
 ghost use Rattle.a429_merge.specs.Order.{lists_of, words_at, IsNext};
 ghost use Rattle.a429_merge.specs.Fill.{AreDataOf};
 ghost use Rattle.a429_merge.specs.Bounded.{IsPair, ArePassed, HasPassed, HasRests, IsStep, IsBoundedStep, HasStepOf, AreSteps, IsHopeless};
 
-use crate::budget::Budget;
+use crate::budget::{Budget, Limit};
 use crate::fill::Wanted;
 use crate::merged::completed_merge;
 use crate::order::{are_passed, next_word, pass, words_at};
@@ -34,9 +34,9 @@ pub fn search_words(
     budget: &mut Budget,
 ) -> Result<Option<Vec<Word>>, AllocError>
     ensures some { IfOk result (λ found. IfSome found (λ v. AreDataOf profile.now wanted.count wanted.check (lists_of lists.now) v.items)) }
-    ensures none { result ≡ Ok None → budget.new.is_cut ≡ false → wanted.count ≤ 253
+    ensures none { result ≡ Ok None → budget.new.cut ≡ None → wanted.count ≤ 253
         → (words : List ℕ) → ¬ AreDataOf profile.now wanted.count wanted.check (lists_of lists.now) words }
-    ensures cut { budget.old.is_cut ≡ true → budget.new.is_cut ≡ true }
+    ensures cut { budget.new.cut ≡ None → budget.old.cut ≡ None }
 {
     let Some(pairs) = pairs_of(alloc, lists, budget)? else {
         return Ok(None);
@@ -88,7 +88,7 @@ fn pairs_of(
 ) -> Result<Option<Vec<Pair>>, AllocError>
     ensures some { IfOk result (λ found. IfSome found (λ pairs. All (IsPair (lists_of lists.now)) pairs.items)) }
     ensures none { IfOk result (λ found. IfNone found (SomeIndex lists.now (λ i. 253 < length (words_at (lists_of lists.now) i)))) }
-    ensures cut { budget.new.is_cut ≡ budget.old.is_cut }
+    ensures cut { budget.new.cut ≡ budget.old.cut }
 {
     let mut pairs = Vec::new(alloc);
     for right in 0..lists.len() {
@@ -113,7 +113,7 @@ fn pair_of(
     requires in_right { right < length lists.now }
     ensures some { IfOk result (λ found. IfSome found (IsPair (lists_of lists.now))) }
     ensures none { IfOk result (λ found. IfNone found (SomeIndex lists.now (λ i. 253 < length (words_at (lists_of lists.now) i)))) }
-    ensures cut { budget.new.is_cut ≡ budget.old.is_cut }
+    ensures cut { budget.new.cut ≡ budget.old.cut }
 {
     let lefts = words_at(lists, left);
     let rights = words_at(lists, right);
@@ -164,7 +164,7 @@ fn steps_from(
     requires { ArePassed (lists_of search.now.lists.now) passed.now }
     ensures are { IfOk result (λ steps. AreSteps (lists_of search.now.lists.now) passed.now steps.items) }
     ensures every { IfOk result (λ steps. (i : ℕ) → i < length search.now.lists.now → (w : ℕ) → IsNext (lists_of search.now.lists.now) passed.now i w → HasStepOf w steps.items) }
-    ensures cut { budget.new.is_cut ≡ budget.old.is_cut }
+    ensures cut { budget.new.cut ≡ budget.old.cut }
 {
     let least = least_left(search, passed);
     let mut steps = Vec::new(alloc);
@@ -252,12 +252,15 @@ fn extend(
     requires short { length path.old.merged.items ≤ search.now.wanted.count }
     ensures some { IfOk result (λ found. IfSome found (λ v. AreDataOf search.now.profile.now search.now.wanted.count search.now.wanted.check (lists_of search.now.lists.now) v.items)) }
     ensures back { result ≡ Ok None → path.new.merged.items ≡ path.old.merged.items }
-    ensures none { result ≡ Ok None → budget.new.is_cut ≡ false
+    ensures none { result ≡ Ok None → budget.new.cut ≡ None
         → IsHopeless search.now.profile.now search.now.wanted.count search.now.wanted.check (lists_of search.now.lists.now) passed.now path.old.merged.items }
-    ensures cut { budget.old.is_cut ≡ true → budget.new.is_cut ≡ true }
+    ensures cut { budget.new.cut ≡ None → budget.old.cut ≡ None }
 {
-    if path.nodes == 0 || budget.is_spent() {
-        budget.cut();
+    if budget.runs_out() {
+        return Ok(None);
+    }
+    if path.nodes == 0 {
+        budget.cut(Limit::Places { left: path.nodes });
         return Ok(None);
     }
     path.nodes -= 1;
@@ -273,7 +276,10 @@ fn extend(
         )?;
         // (only where the polynomial is even: other words may do)
         if words.is_none() && path.merged.len() < search.wanted.count {
-            budget.cut();
+            budget.cut(Limit::Fillings {
+                merged: path.merged.len(),
+                wanted: search.wanted.count,
+            });
         }
         return Ok(words);
     }

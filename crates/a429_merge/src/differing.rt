@@ -26,7 +26,7 @@ pub(crate) fn differing(
     ensures few { IfOk result (λ found. IfSome found (λ kept. length kept.items ≤ 16)) }
     ensures most { IfOk result (λ found. IfSome found (λ kept. length kept.items ≤ length lists.now)) }
     ensures none { IfOk result (λ found. IfNone found (16 < length lists.now)) }
-    ensures cut { budget.new.is_cut ≡ budget.old.is_cut }
+    ensures cut { budget.new.cut ≡ budget.old.cut }
 {
     let mut kept = Vec::new(alloc);
     for list in lists {
@@ -54,7 +54,7 @@ pub fn lists_with(
     ensures all { IfOk result (λ found. IfSome found (λ kept. (zs : List ℕ) → HasEach zs (lists_of kept.items) → HasEach zs (lists_of lists.now) × (is_new ≡ true → IsSubsequenceOf list.now zs))) }
     ensures only { IfOk result (λ found. IfSome found (λ kept. (zs : List ℕ) → HasEach zs (lists_of lists.now) → IsSubsequenceOf list.now zs → HasEach zs (lists_of kept.items))) }
     ensures none { IfOk result (λ found. IfNone found (16 ≤ length lists.now)) }
-    ensures cut { budget.new.is_cut ≡ budget.old.is_cut }
+    ensures cut { budget.new.cut ≡ budget.old.cut }
 {
     let Some(mut kept) = differing(alloc, lists, budget)? else {
         return Ok(None);

@@ -18,7 +18,7 @@ mod subsequence;
 
 pub use crate::block::unit_of_pieces;
 pub use crate::bounded::{MOST_NODES, search_words};
-pub use crate::budget::Budget;
+pub use crate::budget::{Budget, Cut, Limit};
 pub use crate::differing::{MOST_ATTEMPTS, is_in_some, lists_with};
 pub use crate::fill::{Wanted, completed};
 pub use crate::free_bits::bits_for_check_word;

@@ -25,7 +25,7 @@ pub(crate) fn complete_longest(
     ensures some { IfOk result (λ found. IfSome found (λ v. AreDataOf profile.now wanted.count wanted.check (lists_of lists.now) v.items)) }
     ensures none { IfOk result (λ found. IfNone found (EachIndex lists.now (λ i. HasEach (words_at (lists_of lists.now) i) (lists_of lists.now)
         → ¬ CanBeCompleted profile.now wanted.count wanted.check (words_at (lists_of lists.now) i)))) }
-    ensures cut { budget.new.is_cut ≡ budget.old.is_cut }
+    ensures cut { budget.new.cut ≡ budget.old.cut }
 {
     for i in 0..lists.len() {
         match complete_by(alloc, profile, lists, i, wanted, budget)? {
@@ -49,7 +49,7 @@ fn complete_by(
     ensures some { IfOk result (λ found. IfSome found (λ v. AreDataOf profile.now wanted.count wanted.check (lists_of lists.now) v.items)) }
     ensures none { IfOk result (λ found. IfNone found (HasEach (words_at (lists_of lists.now) i) (lists_of lists.now)
         → ¬ CanBeCompleted profile.now wanted.count wanted.check (words_at (lists_of lists.now) i))) }
-    ensures cut { budget.new.is_cut ≡ budget.old.is_cut }
+    ensures cut { budget.new.cut ≡ budget.old.cut }
 {
     let list = words_at(lists, i);
     if !has_each(list, lists, budget) {
@@ -61,7 +61,7 @@ fn complete_by(
 // Whether the words have each list in its order.
 fn has_each(words: &[Word], lists: &[Vec<Word>], budget: &mut Budget) -> bool
     ensures is { IsTrue result ↔ HasEach words.now (lists_of lists.now) }
-    ensures cut { budget.new.is_cut ≡ budget.old.is_cut }
+    ensures cut { budget.new.cut ≡ budget.old.cut }
 {
     for i in 0..lists.len() {
         budget.spend(words.len());

@@ -19,7 +19,7 @@ pub(crate) fn merge_one_by_one(
 ) -> Result<Option<Vec<Word>>, AllocError>
     ensures kept { IfOk result (λ merged. IfSome merged (λ v. HasEach v.items (lists_of lists.now))) }
     ensures none { IfOk result (λ merged. IfNone merged (most_data_words < sum_by (λ list. length list.items) lists.now)) }
-    ensures cut { budget.new.is_cut ≡ budget.old.is_cut }
+    ensures cut { budget.new.cut ≡ budget.old.cut }
 {
     let mut merged = Vec::new(alloc);
     for list in lists {

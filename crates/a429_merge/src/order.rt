@@ -18,7 +18,7 @@ pub fn merge_in_one_order(
     ensures once { IfOk result (λ merged. IfSome merged (λ v. HasNoneTwice v.items)) }
     ensures own { IfOk result (λ merged. IfSome merged (λ v. AreTheirs v.items (lists_of lists.now))) }
     ensures none { IfOk result (λ merged. IfNone merged ((zs : List ℕ) → HasNoneTwice zs → ¬ HasEach zs (lists_of lists.now))) }
-    ensures cut { budget.new.is_cut ≡ budget.old.is_cut }
+    ensures cut { budget.new.cut ≡ budget.old.cut }
 {
     let mut passed = vec![in alloc; 0usize; lists.len()]?;
     let mut merged = Vec::new(alloc);
@@ -39,7 +39,7 @@ fn free_word(lists: &[Vec<Word>], passed: &[usize], budget: &mut Budget) -> Opti
     ensures next { IfSome result (λ w. SomeIndex lists.now (λ i. IsNext (lists_of lists.now) passed.now i w)) }
     ensures free { IfSome result (IsFree (lists_of lists.now) passed.now) }
     ensures none { IfNone result (EachIndex lists.now (λ i. (w : ℕ) → IsNext (lists_of lists.now) passed.now i w → ¬ IsFree (lists_of lists.now) passed.now w)) }
-    ensures cut { budget.new.is_cut ≡ budget.old.is_cut }
+    ensures cut { budget.new.cut ≡ budget.old.cut }
 {
     for i in 0..lists.len() {
         let Some(word) = next_word(words_at(lists, i), passed[i]) else {
@@ -56,7 +56,7 @@ fn free_word(lists: &[Vec<Word>], passed: &[usize], budget: &mut Budget) -> Opti
 fn is_free(lists: &[Vec<Word>], passed: &[usize], word: Word, budget: &mut Budget) -> bool
     requires { length passed.now ≡ length lists.now }
     ensures is { IsTrue result ↔ IsFree (lists_of lists.now) passed.now word }
-    ensures cut { budget.new.is_cut ≡ budget.old.is_cut }
+    ensures cut { budget.new.cut ≡ budget.old.cut }
 {
     for i in 0..lists.len() {
         if comes_later(words_at(lists, i), passed[i], word, budget) {
@@ -109,7 +109,7 @@ pub(crate) fn next_word(words: &[Word], passed: usize) -> Option<Word>
 // The word comes after the next one.
 fn comes_later(words: &[Word], passed: usize, word: Word, budget: &mut Budget) -> bool
     ensures is { IsTrue result ↔ IsLater words.now passed word }
-    ensures cut { budget.new.is_cut ≡ budget.old.is_cut }
+    ensures cut { budget.new.cut ≡ budget.old.cut }
 {
     budget.spend(words.len().saturating_sub(passed));
     passed < words.len() && words[passed + 1..].contains(&word)

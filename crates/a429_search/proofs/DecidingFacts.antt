@@ -1,8 +1,8 @@
 -- Verdicts that are given before a search.
 use Rattle.std.proofs.lemmas.Bool.{cases_order}
 use Rattle.std.proofs.lemmas.List.{take-map}
-use Rattle.std.proofs.lemmas.Option.{slice_get_past, slice_get_within}
-use Rattle.std.proofs.Common.{◌≡◌, ◌⊎◌, ℕ, zero, suc, ◌+◌, ◌<◌, ◌≤◌, Bool, List, [], ◌∷◌, ◌++◌, length, take, drop, Option, Some, None, IfSome, unwrap_or, slice_get, refl, sym, ap, ◌∙◌, subst, inl, inr, append-nil, arith}
+use Rattle.std.proofs.lemmas.Option.{slice_get_past}
+use Rattle.std.proofs.Common.{◌≡◌, ◌⊎◌, ℕ, zero, suc, ◌+◌, ◌<◌, ◌≤◌, List, [], ◌∷◌, ◌++◌, length, take, drop, Option, Some, None, IsSome, is_some, slice_get, refl, sym, ap, ◌∙◌, subst, inl, inr, append-nil, arith}
 use Rattle.a429_profile.specs.Profile.{Contents}
 use Rattle.a429_profile.specs.declared.codes.Codes.{Codes}
 use Rattle.a429_ldu.specs.declared.forms.Form.TheVariants.{Rts, Cts, Ack, Nak, Sot, Part, Eot}
@@ -22,15 +22,14 @@ use Rattle.a429_cert.proofs.ExplainedFacts.{in_some_run}
 use Rattle.a429_explain.specs.declared.verdict.Reason.{Reason}
 use Rattle.a429_explain.specs.declared.verdict.Reason.TheVariants.{NoForm, NotGranted, WrongAnswer, BadBlock, WrongNumber, OtherBlock, NoRun}
 use Rattle.a429_explain.specs.declared.verdict.Doubt.{Doubt}
-use Rattle.a429_explain.specs.declared.verdict.Doubt.TheVariants.{NeverWhole, NotOneBlock, NotReplayed, OutOfSteps}
 use Rattle.a429_explain.specs.declared.verdict.Verdict.TheVariants.{Impossible, Unexplained}
-use Rattle.a429_explain.specs.Decoded.{sight_at}
-use Rattle.a429_explain.specs.Stop.{IsDoubtAt, IsDoubtOf}
 use Rattle.a429_explain.specs.Verdict.{IsFirst}
 use Rattle.a429_explain.specs.Walk.{AreAllowedUpTo, FitsAt, FitsSight}
 use Rattle.a429_contradiction.specs.declared.contradiction.Contradiction.{Contradiction}
+use Rattle.a429_merge.specs.declared.budget.Cut.{Cut}
 use Rattle.a429_contradiction.specs.Contradiction.{ContradictsAt, HasNoContradiction, HasNoneBefore, HasNoRun}
 use Rattle.a429_contradiction.proofs.ContradictionFacts.{none_before}
+use Rattle.a429_search.specs.Recorded.{IsRequestAt, asked_at}
 use Rattle.a429_search.specs.Deciding.{HasDoubt, HasNoReason, IsFirstReasonAt, IsImpossibleBy, IsNoRun, IsNoRunUnlessCut, IsReasonAt, IsSearched}
 
 -- ---- the first words of a recording
@@ -202,10 +201,10 @@ begins_within p es n k l =
     subst (BeginsARun p) (ap (take k) (sym (take-map seen_of n es)) ∙ take_first k n (items_of es) l)
 
 -- one that a search finds before a contradiction
-pub no_run_before : (p : Contents) (es : List Entry) (n : ℕ) (c : Contradiction) (is_cut : Bool)
-    → n ≤ length (items_of es) → HasNoContradiction p (items_of es) n → IsSearched p (items_of (take n es)) is_cut (Some c)
-    → IsNoRunUnlessCut p (items_of es) c is_cut
-no_run_before p es n c is_cut m none (inside, why, no_run, begins) =
+pub no_run_before : (p : Contents) (es : List Entry) (n : ℕ) (c : Contradiction) (cut : Option Cut)
+    → n ≤ length (items_of es) → HasNoContradiction p (items_of es) n → IsSearched p (items_of (take n es)) cut (Some c)
+    → IsNoRunUnlessCut p (items_of es) c cut
+no_run_before p es n c cut m none (inside, why, no_run, begins) =
     let within : c.entry < n = omega (arith, inside, ap length (take-map seen_of n es), take_length n (items_of es) m) in (
       record {
         inside = omega arith;
@@ -301,22 +300,21 @@ first_by p items n c may h = at_least p items c.entry (less_allowed p items n c.
 pub doubt_of_check : (p : Contents) (items : List Seen) (i : ℕ) (d : Doubt) → IsFirst p items (Unexplained i d) → HasDoubt p items
 doubt_of_check p items i d is = record { entry = i; doubt = d; is = is }
 
-word_of_doubt : (c : Codes) (o : Option Seen) (d : Doubt) → IsDoubtOf (sight_at c o) d → (x : Seen) × (o ≡ Some x)
-word_of_doubt c None d h = absurd h
-word_of_doubt c (Some x) d h = (x, refl)
+-- where no limit is answered, no search was cut short
+pub not_cut : {X Y : Type 0} (o : Option X) (q : Option Y) → is_some o ≡ is_some q → o ≡ None → q ≡ None
+not_cut o None same none = refl
+not_cut o (Some y) same none = absurd (cc (sym same ∙ ap is_some none))
 
--- a doubt is at an item
-doubt_inside : (c : Codes) (items : List Seen) (i : ℕ) (d : Doubt) → IsDoubtAt c items i d → i < length items
-doubt_inside c items i NotReplayed h = h
-doubt_inside c items i OutOfSteps h = h
-doubt_inside c items i NeverWhole h = let w = word_of_doubt c (slice_get items i) NeverWhole h in slice_get_within items i w.0 w.1
-doubt_inside c items i NotOneBlock h = let w = word_of_doubt c (slice_get items i) NotOneBlock h in slice_get_within items i w.0 w.1
-
--- and so is the entry at which a search was cut short, or else the one that `check` doubts
-pub ended_inside : (c : Codes) (items : List Seen) (at : Option ℕ) (entry : ℕ) (d : Doubt) {end : ℕ}
-    → IfSome at (λ i. i < length items) → IsDoubtAt c items entry d → end ≡ unwrap_or at entry → end < length items
-ended_inside c items None entry d inside doubt is = subst (λ k. k < length items) (sym is) (doubt_inside c items entry d doubt)
-ended_inside c items (Some i) entry d inside doubt is = subst (λ k. k < length items) (sym is) inside
+-- a request is at an item
+pub request_inside : (p : Contents) (items : List Seen) (i : ℕ) → IsRequestAt p items i → i < length items
+request_inside p items i is = elim (cases_order i (length items)) [
+  | inl e ↦ past (omega (arith, e))
+  | inr (inl l) ↦ l
+  | inr (inr g) ↦ past (omega (arith, g))
+]
+  where
+    past : length items ≤ i → i < length items
+    past l = let none = subst (λ (o : Option Seen). IsSome (asked_at p.codes o)) (slice_get_past items i l) is in absurd (cc none)
 
 -- ---- a run that is written down
 

@@ -1,5 +1,6 @@
 -- Hypotheses that are put to others, and carried on to an attempt.
-use Rattle.std.proofs.Common.{◌≡◌, ◌⊎◌, ℕ, zero, suc, ◌+◌, ◌<◌, ◌≤◌, Bool, true, false, List, [], ◌∷◌, ◌++◌, length, take, Option, Some, None, IfSome, IsSomeAnd, is_some, not, slice_get, get_or, refl, sym, ap, ◌∙◌, subst, inl, inr, arith}
+use Rattle.std.proofs.Common.{◌≡◌, ◌⊎◌, ℕ, zero, suc, ◌+◌, ◌<◌, ◌≤◌, Bool, true, false, List, [], ◌∷◌, ◌++◌, length, take, Option, Some, None, IfSome, IsSomeAnd, is_some, not, slice_get, get_or, length-append, refl, sym, ap, ◌∙◌, subst, inl, inr, arith}
+use Rattle.std.specs.Option.{option_or}
 use Rattle.std.proofs.lemmas.Bool.{cases_order}
 use Rattle.std.proofs.lemmas.Option.{slice_get_read, slice_get_within}
 use Rattle.a429_profile.specs.Profile.{Contents, IsProfile}
@@ -17,12 +18,13 @@ use Rattle.a429_search.specs.declared.attempts.Attempt.{Attempt}
 use Rattle.a429_search.specs.declared.attempts.StartWord.{StartWord}
 use Rattle.a429_merge.specs.declared.pieces.EndWord.{EndWord}
 use Rattle.a429_search.specs.declared.groups.Group.{Group}
+use Rattle.a429_search.specs.declared.searching.CutAt.{CutAt}
 use Rattle.a429_search.specs.declared.searching.Hypothesis.{Hypothesis}
 use Rattle.a429_search.specs.declared.standing.Standing.{Standing}
 use Rattle.a429_search.specs.declared.standing.Ways.{Ways}
-use Rattle.a429_search.specs.Frontier.{AreAt, AreCovered, AreKept, CarriesOn, Covers, FitsGroup, FitsNone, GoOnFrom, HasFewest, IsAmong, IsRefused, IsStart}
+use Rattle.a429_search.specs.Frontier.{AreAt, AreCovered, AreKept, CarriesOn, Covers, FitsGroup, FitsNone, GoOnFrom, HasFewest, AreCuts, IsAmong, IsAtRequest, IsRefused, IsStart, leaves_nothing_out}
 use Rattle.a429_contradiction.specs.Contradiction.{HasNoRun}
-use Rattle.a429_search.specs.Recorded.{IsAttemptFrom, MayBeOf, MayBeTo, number_of}
+use Rattle.a429_search.specs.Recorded.{IsRequestAt, IsAttemptFrom, MayBeOf, MayBeTo, number_of}
 use Rattle.a429_search.specs.Standing.{Begins, IsAt, IsHeard, IsNamed, LeaveNothingOut, MayStand, Stands, StandsLater, all_give_ups}
 use Rattle.a429_search.proofs.FrontierFacts.{CoverNext, comes_next, cover_more, in_range, not_assignable}
 use Rattle.a429_search.proofs.RecordedFacts.{may_be_to, there}
@@ -80,10 +82,6 @@ then_too None F A B f h = tt
 then_too (Some s) F A B f h = λ x. f (h x)
 
 -- what was not cut short then was not before
-pub uncut : (before after : Bool) → (before ≡ true → after ≡ true) → after ≡ false → before ≡ false
-uncut true after f none = let cut = f refl in absurd (cc (cut, none))
-uncut false after f none = refl
-
 -- what the hypothesis covers is covered, where each way that its standing has is
 pub carried_on : (p : Contents) (h : Hypothesis) (ways : Ways) (start : Option UnitNumber) (has_group : Bool) (t : Assigned) (A : Type 0)
     → LeaveNothingOut p.codes.first_ldu h.standing start has_group ways → has_group ≡ is_some h.group → IsSound p t → IsNamed start t.number
@@ -236,6 +234,11 @@ heard_on p hyps next heard kept old whole a still carries goes keep = λ t u bef
 
 -- ---- with other places in the trail
 
+pub moved_many : (all xs ys : List Hypothesis) (h g : Hypothesis)
+    → length (xs ++ h ∷ ys) ≡ length all → length ((xs ++ g ∷ []) ++ ys) ≡ length all
+moved_many all xs ys h g many =
+    omega (arith, many, length-append xs (h ∷ ys), length-append (xs ++ g ∷ []) ys, length-append xs (g ∷ []))
+
 pub moved_one : (p : Contents) (t : Assigned) (xs ys : List Hypothesis) (h g : Hypothesis)
     → g.standing ≡ h.standing → g.group ≡ h.group → AreCovered p (xs ++ h ∷ ys) t → AreCovered p ((xs ++ g ∷ []) ++ ys) t
 moved_one p t xs ys h g stands group c = by xs c.place c.is
@@ -280,14 +283,14 @@ start_covers p a hyps (h, is, known, gave, since, started, group) now ok t (none
         (ldu, omega (arith, gave, since))
 
 -- of an attempt that is known by its first and its last word
-pub attempt_in : (p : Contents) (items : List Seen) (from to : ℕ) (o : Option Attempt) (a : Attempt)
-    → o ≡ Some a → IfSome o (IsAttemptFrom p items from to) → IsAttemptFrom p items from to a
-attempt_in p items from to o a is h = subst (λ (q : Option Attempt). IfSome q (IsAttemptFrom p items from to)) is h
+pub is_refused : (p : Contents) (items : List Seen) (from to : ℕ) (hyps : List Hypothesis) (a : Attempt) (q : Contents)
+    → q ≡ p → IsAttemptFrom p items from to a → FitsNone q hyps a → IsRefused p items hyps from to
+is_refused p items from to hyps a q same is none = (a, is, subst (λ (r : Contents). FitsNone r hyps a) same none)
 
-pub is_refused : (p : Contents) (items : List Seen) (from to : ℕ) (hyps : List Hypothesis) (o : Option Attempt) (a : Attempt) (q : Contents)
-    → q ≡ p → o ≡ Some a → IfSome o (IsAttemptFrom p items from to) → FitsNone q hyps a → IsRefused p items hyps from to
-is_refused p items from to hyps o a q same is h none =
-    (a, attempt_in p items from to o a is h, subst (λ (r : Contents). FitsNone r hyps a) same none)
+-- where nothing is left out, no search was cut short
+pub none_cut : (o : Option CutAt) → leaves_nothing_out o ≡ true → o ≡ None
+none_cut None e = refl
+none_cut (Some c) e = absurd (cc e)
 
 pub none_left : (p : Contents) (hyps next : List Hypothesis) (a : Attempt) → next ≡ [] → CarriesOn p hyps a next → FitsNone p hyps a
 none_left p hyps next a none carries t sound may covered =
@@ -298,11 +301,10 @@ none_left p hyps next a none carries t sound may covered =
 
 -- after an attempt from which the hypotheses go on
 pub covers_on : (p : Contents) → IsProfile p → (items : List Seen) (from to : ℕ) (whole : Bool) (hyps next : List Hypothesis)
-    (o : Option Attempt) (a : Attempt) (q : Contents) → q ≡ p → o ≡ Some a → IfSome o (IsAttemptFrom p items from to)
+    (a : Attempt) (q : Contents) → q ≡ p → IsAttemptFrom p items from to a
     → (whole ≡ true → CoverNext p (attempts p (take from items)) hyps) → GoOnFrom q whole hyps a next
     → CoverNext p (attempts p (take to items)) next
-covers_on p good items from to whole hyps next o a q same found h covers goes_so =
-    let is = attempt_in p items from to o a found h in
+covers_on p good items from to whole hyps next a q same is covers goes_so =
     let goes = subst (λ (r : Contents). GoOnFrom r whole hyps a next) same goes_so in
     subst (λ l. CoverNext p l next) (sym is.all)
     (cover_more p (attempts p (take from items)) (latest p (take to items)) whole hyps next
@@ -319,3 +321,33 @@ no_run_at p good law items from entry hyps covers (a, is, none) run =
     not_assignable p (take to items) (attempts p (take from items)) (latest p (take to items)) hyps is.all covers
     (λ t sound of covered. none t sound (may_be_to p good (latest p (take to items)) a t is.is sound of) covered)
     (law (take to items) run)
+
+-- ---- where a search was cut short
+
+pub some_left : (hyps : List Hypothesis) → IsStart hyps → hyps ≡ [] → ⊥
+some_left hyps (h, is, known, give_ups, since, started, group) none = absurd (cc (is, none))
+
+pub no_cut : {X : Type 0} (o q : Option X) → option_or o q ≡ None → (o ≡ None) × (q ≡ None)
+no_cut None q e = (refl, e)
+no_cut (Some x) q e = absurd (cc e)
+
+-- where each cut before was at a request, and this attempt has one, so is a cut after it
+pub at_request : (p : Contents) (items : List Seen) (one other : Option CutAt) (from at : ℕ) (new : Option CutAt)
+    → at ≡ from → IsRequestAt p items from → IsAtRequest p items one → IsAtRequest p items other → AreCuts one other at new
+    → IsAtRequest p items new
+at_request p items one other from at None same here h k cuts = tt
+at_request p items one other from at (Some c) same here h k (inl is) = subst (IsRequestAt p items) (sym (is ∙ same)) here
+at_request p items one other from at (Some c) same here h k (inr (inl is)) = subst (IsAtRequest p items) is h
+at_request p items one other from at (Some c) same here h k (inr (inr is)) = subst (IsAtRequest p items) is k
+
+-- nothing is left out exactly where there is no cut
+pub was_none : {X : Type 0} (o : Option X) (b : Bool) → is_some o ≡ not b → b ≡ true → o ≡ None
+was_none None b is e = refl
+was_none (Some x) b is e = absurd (cc (is ∙ ap not e))
+
+pub none_whole : {X : Type 0} (o : Option X) (b : Bool) → is_some o ≡ not b → o ≡ None → b ≡ true
+none_whole o true is e = refl
+none_whole o false is e = absurd (cc (sym (ap is_some e) ∙ is))
+
+pub whole_old : (o : Option CutAt) → o ≡ None → leaves_nothing_out o ≡ true
+whole_old o e = ap leaves_nothing_out e

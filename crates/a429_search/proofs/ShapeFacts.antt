@@ -1,6 +1,6 @@
 -- What an attempt may have recorded: words that the observer allows are the start word of a block, data words of it and its end word, some
 -- of them lost; and a number is acknowledged only after its start word.
-use Rattle.std.proofs.Common.{◌≡◌, ◌⊎◌, ℕ, Bool, true, false, cond, List, [], ◌∷◌, ◌++◌, Option, Some, None, IfSome, refl, sym, ap, ◌∙◌, subst, inl, inr, append-nil}
+use Rattle.std.proofs.Common.{◌≡◌, ◌==◌, ◌&&◌, ◌⊎◌, ◌+◌, ℕ, Bool, true, false, cond, List, [], ◌∷◌, ◌++◌, length, Option, Some, None, IfSome, is_some, eqb-true, refl, sym, ap, ◌∙◌, subst, inl, inr, append-nil}
 use Rattle.a429_word.specs.declared.bus.Bus.{Bus}
 use Rattle.a429_word.specs.declared.bus.Bus.TheVariants as bus
 use Rattle.a429_profile.specs.Profile.{Contents, IsProfile}
@@ -15,7 +15,7 @@ use Rattle.a429_link.specs.Assignment.{Assigned, IsAckedAs, IsOf}
 use Rattle.a429_link.specs.Attempt.{Attempt, asks, fresh, grown, latest, latest_from, under_way}
 use Rattle.a429_link.specs.Observer.{Allows, AllowsForm, AreAllowed, Observer, at_first, observed, sees, sees_form}
 use Rattle.a429_link.specs.Run.{IsSubsequenceOf}
-use Rattle.a429_link.specs.Sink.{Block, Granted, InBlock, Number, OwesAck, OwesClear, OwesNak, Quiet, SinkPhase, is_good, number_of}
+use Rattle.a429_link.specs.Sink.{Block, Granted, InBlock, Number, OwesAck, OwesClear, OwesNak, Quiet, Sink, SinkPhase, is_good, is_same, number_of}
 use Rattle.a429_link.specs.WholeBlock.{data_first, data_words}
 use Rattle.a429_link.proofs.AllData.{data-append}
 use Rattle.a429_link.proofs.Message.{IsRead}
@@ -24,7 +24,7 @@ use Rattle.a429_link.proofs.Subsequence.{sub_lost, sub_none, sub_push}
 use Rattle.a429_search.specs.declared.attempts.Attempt as kept
 use Rattle.a429_search.specs.declared.attempts.StartWord.{StartWord}
 use Rattle.a429_merge.specs.declared.pieces.EndWord.{EndWord}
-use Rattle.a429_search.specs.Recorded.{IsRecorded, MayBeTo, end_by, end_from, start_by, start_from}
+use Rattle.a429_search.specs.Recorded.{IsRecorded, IsWholeIfHeard, MayBeTo, end_by, end_from, start_by, start_from}
 use Rattle.a429_search.proofs.RecordedFacts.{end_push, start_push}
 
 -- ---- words of a block
@@ -237,6 +237,158 @@ latest_formed : (p : Contents) → IsRead p → (items : List Seen) → AreAllow
 latest_formed p good items h =
     let o = observed p items at_first in
     formed p o.begun o.phase (latest p items) (shape_from p good items at_first (fresh 0) h (shaped_front p [] tt, tt))
+
+-- ---- an attempt that was acknowledged is whole
+
+-- the start word, the end word and all data words were recorded
+record IsAll (p : Contents) (a : Attempt) : Type 0 where
+  start : is_some (start_from p.codes None a.words) ≡ true
+  end : is_some (end_from p.codes None a.words) ≡ true
+  words : length (data_words p.codes a.words) + 2 ≡ a.count
+
+-- by what the sink does
+abbrev Kept : Contents → SinkPhase → Attempt → Type 0
+Kept p Quiet a = is_some a.acked ≡ true → IsAll p a
+Kept p (InBlock b) a = (data_words p.codes a.words ≡ b.words) × (a.acked ≡ None)
+Kept p (OwesAck b flags) a = IsAll p a × (a.acked ≡ None)
+Kept p OwesClear a = a.acked ≡ None
+Kept p Granted a = a.acked ≡ None
+Kept p OwesNak a = a.acked ≡ None
+
+abbrev KeptOf : Contents → Observer → Attempt → Type 0
+KeptOf p o a = (a.count ≡ o.count) × Kept p o.phase a
+
+data_push : (p : Contents) (ws : List ℕ) (w : ℕ) (x : Option Form)
+    → form_of p.codes bus.A w ≡ x → data_words p.codes (ws ++ w ∷ []) ≡ data_words p.codes ws ++ data_first w x []
+data_push p ws w x e = data-append p.codes ws (w ∷ []) ∙ ap (λ (o : Option Form). data_words p.codes ws ++ data_first w o []) e
+
+-- the data words of a good block are as many as were asked for
+many_of : (p : Contents) (last : Option Number) (count : ℕ) (b : Block) (check : ℕ)
+    → is_good p last count b check ≡ true → length b.words + 2 ≡ count
+many_of p last count b check good = eqb-true (length b.words + 2) count (first_is (length b.words + 2 == count) _ good)
+  where
+    first_is : (x y : Bool) → (x && y) ≡ true → x ≡ true
+    first_is true y e = refl
+    first_is false y e = absurd (cc e)
+
+good_kept : (p : Contents) (good : Bool) (b : Block) (flags : ℕ) (a : Attempt)
+    → (good ≡ true → IsAll p a) → a.acked ≡ None → Kept p (cond good (OwesAck b flags) OwesNak) a
+good_kept p true b flags a all none = (all refl, none)
+good_kept p false b flags a all none = none
+
+-- an acknowledgement leaves the count
+count_of_either : (s : Bool) (x y : Sink) (n : ℕ) → x.count ≡ n → y.count ≡ n → (cond s x y).count ≡ n
+count_of_either true x y n e f = e
+count_of_either false x y n e f = f
+
+not_acked : {X : Type 0} (o : Option UnitNumber) → o ≡ None → is_some o ≡ true → X
+not_acked o none is = absurd (cc (none, is))
+
+quiet_kept : (p : Contents) (b : Bus) (w : ℕ) (o : Observer) (a : Attempt)
+    → KeptOf p o a → KeptOf p (sees_form p b w None o) (under_way (asks b None) (grown b w None a))
+quiet_kept p bus.A w o a k = k
+quiet_kept p bus.B w o a k = k
+
+next_kept : (p : Contents) (b : Bus) (w : ℕ) (x : Form) (last : Option Number) (count parts : ℕ) (begun : Bool) (phase : SinkPhase)
+    (a : Attempt)
+    → form_of p.codes b w ≡ Some x
+    → AllowsForm (record { last = last; count = count; phase = phase; begun = begun; parts = parts }) b (Some x)
+    → Shape p begun phase a → a.count ≡ count → Kept p phase a
+    → KeptOf p (sees_form p b w (Some x) (record { last = last; count = count; phase = phase; begun = begun; parts = parts }))
+    (under_way (asks b (Some x)) (grown b w (Some x) a))
+next_kept p bus.A w (form.Rts n) last count parts begun phase a e h s m k = (refl, refl)
+next_kept p bus.A w (form.Sot g f l) last count parts begun Granted a e h s m k =
+    (m, (ap (λ (ws : List ℕ). data_words p.codes (ws ++ w ∷ [])) (s.1 h.1) ∙ ap (λ (o : Option Form). data_first w o []) e, s.2))
+next_kept p bus.A w (form.Sot g f l) last count parts begun (InBlock b) a e h s m k =
+    let off = h.1 in let on = s.1 in absurd (cc (off, on))
+next_kept p bus.A w (form.Sot g f l) last count parts begun Quiet a e h s m k = absurd h.0
+next_kept p bus.A w (form.Sot g f l) last count parts begun OwesClear a e h s m k = absurd h.0
+next_kept p bus.A w (form.Sot g f l) last count parts begun (OwesAck b flags) a e h s m k = absurd h.0
+next_kept p bus.A w (form.Sot g f l) last count parts begun OwesNak a e h s m k = absurd h.0
+next_kept p bus.A w (form.Part q) last count parts begun Granted a e h s m k = (m, k)
+next_kept p bus.A w (form.Part q) last count parts begun (InBlock b) a e h s m k =
+    (m, (data_push p a.words w (Some (form.Part q)) e ∙ ap (λ (l : List ℕ). l ++ w ∷ []) k.0, k.1))
+next_kept p bus.A w (form.Part q) last count parts begun Quiet a e h s m k = absurd h.0
+next_kept p bus.A w (form.Part q) last count parts begun OwesClear a e h s m k = absurd h.0
+next_kept p bus.A w (form.Part q) last count parts begun (OwesAck b flags) a e h s m k = absurd h.0
+next_kept p bus.A w (form.Part q) last count parts begun OwesNak a e h s m k = absurd h.0
+next_kept p bus.A w (form.Eot f c) last count parts begun Granted a e h s m k = (m, k)
+next_kept p bus.A w (form.Eot f c) last count parts begun (InBlock b) a e h s m k =
+    let start = start_kept p (number_of b) a.words w (Some (form.Eot f c)) e (λ o. refl) s.2 in (
+      m,
+      good_kept p (is_good p last count b c) b f (record a { words = a.words ++ w ∷ [] })
+          (λ good. record {
+            start = ap is_some start.is;
+            end =
+                ap is_some (end_push p.codes None a.words w
+                ∙ ap (λ (o : Option Form). end_by o (end_from p.codes None a.words)) e);
+            words =
+                ap (λ (l : List ℕ). length l + 2)
+                (data_push p a.words w (Some (form.Eot f c)) e ∙ append-nil (data_words p.codes a.words) ∙ k.0)
+                ∙ many_of p last count b c good ∙ sym m;
+          }) k.1,
+    )
+next_kept p bus.A w (form.Eot f c) last count parts begun Quiet a e h s m k = absurd h
+next_kept p bus.A w (form.Eot f c) last count parts begun OwesClear a e h s m k = absurd h
+next_kept p bus.A w (form.Eot f c) last count parts begun (OwesAck b flags) a e h s m k = absurd h
+next_kept p bus.A w (form.Eot f c) last count parts begun OwesNak a e h s m k = absurd h
+next_kept p bus.A w (form.Cts n) last count parts begun phase a e h s m k = absurd h
+next_kept p bus.A w (form.Ack f l) last count parts begun phase a e h s m k = absurd h
+next_kept p bus.A w (form.Nak n) last count parts begun phase a e h s m k = absurd h
+next_kept p bus.B w (form.Cts n) last count parts begun OwesClear a e h s m k = (m, k)
+next_kept p bus.B w (form.Ack f l) last count parts begun (OwesAck b flags) a e h s m k = (
+  m ∙ sym (count_of_either (is_same last (number_of b)) _ _ count refl refl),
+  λ _. record { start = k.0.start; end = k.0.end; words = k.0.words },
+)
+next_kept p bus.B w (form.Nak n) last count parts begun (OwesAck b flags) a e h s m k = (m, not_acked a.acked k.1)
+next_kept p bus.B w (form.Nak n) last count parts begun OwesNak a e h s m k = (m, not_acked a.acked k)
+next_kept p bus.B w x last count parts begun Quiet a e h s m k = absurd h
+next_kept p bus.B w x last count parts begun OwesClear a e h s m k = absurd h
+next_kept p bus.B w x last count parts begun Granted a e h s m k = absurd h
+next_kept p bus.B w x last count parts begun (InBlock b) a e h s m k = absurd h
+next_kept p bus.B w x last count parts begun (OwesAck b flags) a e h s m k = absurd h
+next_kept p bus.B w x last count parts begun OwesNak a e h s m k = absurd h
+
+item_kept : (p : Contents) → IsRead p → (i : Seen) (o : Observer) (a : Attempt) → Allows p o i → ShapeOf p o a → KeptOf p o a
+    → KeptOf p (sees p i o) (under_way (asks i.bus (form_of p.codes i.bus i.word)) (grown i.bus i.word (form_of p.codes i.bus i.word) a))
+item_kept p good i o a allows s k = by (form_of p.codes i.bus i.word) refl allows
+  where
+    by : (x : Option Form) → form_of p.codes i.bus i.word ≡ x → Allows p o i
+        → KeptOf p (sees_form p i.bus i.word x o) (under_way (asks i.bus x) (grown i.bus i.word x a))
+    by None e h = quiet_kept p i.bus i.word o a k
+    by (Some x) e (inl free) = let none = good.free i.bus i.word free in absurd (cc (e, none))
+    by (Some x) e (inr h) =
+        next_kept p i.bus i.word x o.last o.count o.parts o.begun o.phase a e (subst (AllowsForm o i.bus) e h) s k.0 k.1
+
+kept_from : (p : Contents) → IsRead p → (items : List Seen) (o : Observer) (a : Attempt) → AreAllowed p o items → ShapeOf p o a → KeptOf p o a
+    → KeptOf p (observed p items o) (latest_from p a items)
+kept_from p good [] o a h s k = k
+kept_from p good (i ∷ items) o a h s k =
+    kept_from p good items (sees p i o)
+    (under_way (asks i.bus (form_of p.codes i.bus i.word)) (grown i.bus i.word (form_of p.codes i.bus i.word) a)) h.1
+    (item_shape p good i o a h.0 s) (item_kept p good i o a h.0 s k)
+
+all_of : (p : Contents) (phase : SinkPhase) (a : Attempt) → Kept p phase a → is_some a.acked ≡ true → IsAll p a
+all_of p Quiet a k is = k is
+all_of p OwesClear a k is = not_acked a.acked k is
+all_of p Granted a k is = not_acked a.acked k is
+all_of p (InBlock b) a k is = not_acked a.acked k.1 is
+all_of p (OwesAck b flags) a k is = not_acked a.acked k.1 is
+all_of p OwesNak a k is = not_acked a.acked k is
+
+pub heard_whole : (p : Contents) → IsProfile p → (items : List Seen) → AreAllowed p at_first items → (b : kept.Attempt)
+    → IsRecorded p.codes (latest p items) b → IsWholeIfHeard b
+heard_whole p sound items allowed b r heard =
+    let a = latest p items in
+    let none : is_some a.acked ≡ true → IsAll p a =
+    all_of p (observed p items at_first).phase a
+    (kept_from p (is_read p sound) items at_first (fresh 0) allowed (shaped_front p [] tt, tt) (refl, λ is. absurd (cc is))).1 in
+    let all = none (sym r.acked ∙ heard) in
+    record {
+      start = ap is_some r.start ∙ all.start;
+      end = ap is_some r.end ∙ all.end;
+      words = ap (λ (l : List ℕ). length l + 2) r.words ∙ all.words ∙ sym r.count;
+    }
 
 -- ---- so its words are some of the block's
 

@@ -1,7 +1,6 @@
 -- That hypotheses make nothing up: what they say of the last attempt is the end of an assignment of all.
 use Rattle.std.proofs.Common.{◌≡◌, ◌↔◌, ◌⊎◌, ℕ, zero, suc, ◌+◌, ◌≤◌, Bool, true, false, List, [], ◌∷◌, ◌++◌, length, take, Option, Some, None, IfSome, is_some, slice_get, refl, sym, ap, ◌∙◌, subst, inl, inr, arith}
 use Rattle.std.proofs.lemmas.List.{take_all}
-use Rattle.std.specs.Option.{option_or}
 use Rattle.a429_profile.specs.Profile.{Contents, IsProfile}
 use Rattle.a429_profile.specs.declared.codes.Codes.{Codes}
 use Rattle.a429_ldu.specs.Ldu.{LduValue}
@@ -21,12 +20,12 @@ use Rattle.a429_search.specs.declared.standing.Standing.{Standing}
 use Rattle.a429_search.specs.declared.standing.Ways.{Ways}
 use Rattle.a429_merge.specs.Block.{MayBeUnitOf}
 use Rattle.a429_search.specs.Frontier.{AddCarried, AreCarried, AreHeard, AreSame, CanSend, FitsGroup, FitsSome, IsCarriedFrom, IsHeardBy, IsReal, IsStart, LeadsBy, SomeSays, TakesOn}
-use Rattle.a429_search.specs.Recorded.{IsAttemptFrom, MayBeOf, MayBeTo, number_of}
+use Rattle.a429_search.specs.Recorded.{IsAttemptFrom, IsWholeIfHeard, MayBeOf, MayBeTo, number_of}
 use Rattle.a429_search.specs.Standing.{CanBe, CanComeTo, CanStand, IsInRange, IsNamed, IsRegular, MakeNothingUp, all_give_ups, past}
 use Rattle.a429_search.proofs.FrontierFacts.{CanReach}
 use Rattle.a429_search.proofs.RecordedFacts.{there}
 use Rattle.a429_contradiction.proofs.RivalFacts.{get_push}
-use Rattle.a429_search.proofs.ShapeFacts.{is_of}
+use Rattle.a429_search.proofs.ShapeFacts.{heard_whole, is_of}
 use Rattle.a429_search.proofs.StandingFacts.{can_first, can_now, range_now}
 
 -- ---- the first words of those that are allowed
@@ -396,11 +395,10 @@ sure_at_first p items n hyps is start =
 
 -- one attempt more
 pub sure_next : (p : Contents) → IsProfile p
-    → (items : List Seen) (from to : ℕ) (hyps new : List Hypothesis) (o : Option kept.Attempt) (b : kept.Attempt) (q : Contents)
-    → AreAllowedUpTo p items (length items) → to ≤ length items → q ≡ p → o ≡ Some b → IfSome o (IsAttemptFrom p items from to)
+    → (items : List Seen) (from to : ℕ) (hyps new : List Hypothesis) (b : kept.Attempt) (q : Contents)
+    → AreAllowedUpTo p items (length items) → to ≤ length items → q ≡ p → IsAttemptFrom p items from to b
     → AreSureOf p items from hyps → TakesOn q hyps b new → AreSureOf p items to new
-sure_next p good items from to hyps new o b q allowed inside same found h (ok, sure) takes_so =
-    let is = subst (λ (x : Option kept.Attempt). IfSome x (IsAttemptFrom p items from to)) found h in
+sure_next p good items from to hyps new b q allowed inside same is (ok, sure) takes_so =
     let takes = subst (λ (r : Contents). TakesOn r hyps b new) same takes_so in
     let a = latest p (take to items) in
     let may = allowed_first p items to inside (λ k less. allowed k (omega (arith, less, inside))) in (
@@ -445,9 +443,12 @@ sure_before p good law items from to hyps allowed inside sure (inl (same, some))
     begins_first p good law items to hyps allowed inside some (subst (λ (n : ℕ). AreSureOf p items n hyps) same sure)
 sure_before p good law items from to hyps allowed inside sure (inr (a, is, next, carried, some)) =
     begins_first p good law items to next allowed inside some
-    (sure_next p good items from to hyps next (Some a) a p allowed inside refl refl is sure
+    (sure_next p good items from to hyps next a p allowed inside refl is sure
     (record { next = next; carried = carried; heard = next; after = inl refl; same = same_self next }))
 
-pub never_none : (o : Option ℕ) (k : ℕ) → option_or o (Some k) ≡ None → ⊥
-never_none None k e = absurd (cc e)
-never_none (Some i) k e = absurd (cc e)
+-- one that was acknowledged is whole
+pub whole_if_heard : (p : Contents) → IsProfile p → (items : List Seen) (from to : ℕ) (b : kept.Attempt)
+    → AreAllowedUpTo p items (length items) → to ≤ length items → IsAttemptFrom p items from to b → IsWholeIfHeard b
+whole_if_heard p good items from to b allowed inside is =
+    let may = allowed_first p items to inside (λ k less. allowed k (omega (arith, less, inside))) in
+    heard_whole p good (take to items) may b is.is

@@ -1,5 +1,5 @@
 -- Which verdict `decide` gives (profile).
-use Rattle.std.specs.Prelude.{◌≡◌, ◌+◌, ◌≤◌, ◌<◌, ◌⊎◌, ℕ, Bool, true, false, IfSome, List, Option, None, Some, length, slice_get, take}
+use Rattle.std.specs.Prelude.{◌≡◌, ◌+◌, ◌≤◌, ◌<◌, ◌⊎◌, ℕ, IfSome, IsSome, List, Option, None, Some, length, slice_get, take}
 use Rattle.a429_profile.specs.Profile.{Contents}
 use Rattle.a429_link.specs.declared.seen.Seen.{Seen}
 use Rattle.a429_cert.specs.Explained.{IsExplained}
@@ -19,10 +19,13 @@ use Rattle.a429_contradiction.specs.declared.contradiction.Contradiction.{Contra
 use Rattle.a429_search.specs.declared.deciding.Judged.{Judged}
 use Rattle.a429_search.specs.declared.deciding.Judged.TheVariants as judged
 use Rattle.a429_search.specs.declared.deciding.Before.{Before}
-use Rattle.a429_search.specs.declared.deciding.Decision.{Decision}
 use Rattle.a429_search.specs.declared.deciding.Written.{Written}
 use Rattle.a429_search.specs.declared.deciding.Written.TheVariants as written
+use Rattle.a429_merge.specs.Budget.{IsReached}
+use Rattle.a429_merge.specs.declared.budget.Cut.{Cut}
+use Rattle.a429_merge.specs.declared.budget.Limit.{Limit}
 use Rattle.a429_search.specs.Frontier.{IsSureUnless}
+use Rattle.a429_search.specs.Recorded.{IsRequestAt}
 use Rattle.a429_contradiction.specs.Contradiction.{ContradictsAt, HasNoContradiction, HasNoneBefore, HasNoRun, IsFirstContradiction}
 
 -- the words before item i do not allow it, and the reason fits it; or it contradicts them, by this reason
@@ -51,41 +54,41 @@ pub record IsNoRun (p : Contents) (items : List Seen) (c : Contradiction) : Type
   pub no_run : HasNoRun p items c.entry
 
 -- where the search was not cut short, some run's trace begins with the first n items
-abbrev pub BeginsUnlessCut : Contents → List Seen → ℕ → Bool → Type 0
-BeginsUnlessCut p items n is_cut = is_cut ≡ false → BeginsARun p (take n items)
+abbrev pub BeginsUnlessCut : {Z : Type 0} → Contents → List Seen → ℕ → Option Z → Type 0
+BeginsUnlessCut p items n cut = cut ≡ None → BeginsARun p (take n items)
 
 -- no run's trace begins with the words up to its entry; where the search was not cut short, some run's trace begins with those before it
-abbrev pub IsNoRunUnlessCut : Contents → List Seen → Contradiction → Bool → Type 0
-IsNoRunUnlessCut p items c is_cut = IsNoRun p items c × BeginsUnlessCut p items c.entry is_cut
+abbrev pub IsNoRunUnlessCut : {Z : Type 0} → Contents → List Seen → Contradiction → Option Z → Type 0
+IsNoRunUnlessCut p items c cut = IsNoRun p items c × BeginsUnlessCut p items c.entry cut
 
 -- what is found of items that are allowed
 abbrev pub IsJudged : Contents → List Seen → Judged → Type 0
-IsJudged p items (judged.NoRun c is_cut) = IsNoRunUnlessCut p items c is_cut
-IsJudged p items (judged.Guessed guess unsure_at) = IsGuess p items guess × HasNoContradiction p items (length items) × IsSureUnless p items unsure_at
-IsJudged p items (judged.CutShort at) = IfSome at (λ i. i < length items) × HasNoContradiction p items (length items)
+IsJudged p items (judged.NoRun c cut) = IsNoRunUnlessCut p items c cut
+IsJudged p items (judged.Guessed guess unsure) = IsGuess p items guess × HasNoContradiction p items (length items) × IsSureUnless p items unsure
+IsJudged p items (judged.CutShort at) = IsRequestAt p items at.entry × HasNoContradiction p items (length items)
 
 -- the same, with the run that is guessed written down
 abbrev pub IsWritten : Contents → List Seen → Written → Type 0
-IsWritten p items (written.NoRun c is_cut) = IsNoRunUnlessCut p items c is_cut
+IsWritten p items (written.NoRun c cut) = IsNoRunUnlessCut p items c cut × IfSome cut IsReached
 IsWritten p items (written.Run e) = IsExplanationOf p items e × HasNoContradiction p items (length items)
 IsWritten p items (written.Begun i) = (i < length items) × BeginsARun p items × HasNoContradiction p items (length items)
-IsWritten p items (written.CutShort at) = IfSome at (λ i. i < length items) × HasNoContradiction p items (length items)
+IsWritten p items (written.CutShort at) = IsRequestAt p items at.entry × HasNoContradiction p items (length items)
 
 -- what is found of the items before one that is refused
-abbrev pub IsFoundBefore : Contents → List Seen → Bool → Option Contradiction → Type 0
-IsFoundBefore p items is_cut (Some c) = IsNoRunUnlessCut p items c is_cut
-IsFoundBefore p items is_cut None = HasNoContradiction p items (length items) × (is_cut ≡ false → BeginsARun p items)
+abbrev pub IsFoundBefore : Contents → List Seen → Option Cut → Option Contradiction → Type 0
+IsFoundBefore p items cut (Some c) = IsNoRunUnlessCut p items c cut
+IsFoundBefore p items cut None = HasNoContradiction p items (length items) × (cut ≡ None → BeginsARun p items)
 
 abbrev pub IsLookedBefore : Contents → List Seen → Before → Type 0
-IsLookedBefore p items b = IsFoundBefore p items b.is_cut b.found
+IsLookedBefore p items b = IsFoundBefore p items b.cut b.found
 
 -- what a search alone finds of items
-abbrev pub IsSearched : Contents → List Seen → Bool → Option Contradiction → Type 0
-IsSearched p items is_cut (Some c) = (c.entry < length items) × (c.reason ≡ NoRun) × HasNoRun p items c.entry × BeginsUnlessCut p items c.entry is_cut
-IsSearched p items is_cut None = is_cut ≡ false → BeginsARun p items
+abbrev pub IsSearched : Contents → List Seen → Option Cut → Option Contradiction → Type 0
+IsSearched p items cut (Some c) = (c.entry < length items) × (c.reason ≡ NoRun) × HasNoRun p items c.entry × BeginsUnlessCut p items c.entry cut
+IsSearched p items cut None = cut ≡ None → BeginsARun p items
 
 abbrev pub IsSearchedBefore : Contents → List Seen → Before → Type 0
-IsSearchedBefore p items b = IsSearched p items b.is_cut b.found
+IsSearchedBefore p items b = IsSearched p items b.cut b.found
 
 -- the verdict says that no run's trace begins with the words up to item i, or with fewer
 abbrev pub IsImpossibleUpTo : ℕ → Verdict → Type 0
@@ -105,14 +108,16 @@ IsOfCheck p items (Impossible i reason) = Unit {0}
 IsOfCheck p items (Unexplained i doubt) = HasDoubt p items
 
 -- a yes, with a certificate that explains these words; or an item such that no run's trace begins with the words up to it, and some run's
--- trace with those before it, unless the search was cut short; or it was cut short; or some run's trace begins with all these words
-abbrev pub IsExactly : Contents → List Seen → Bool → Verdict → Type 0
-IsExactly p items is_cut (Explained certificate files) = IsExplained p certificate items files
-IsExactly p items is_cut (Impossible i reason) = (i < length items) × HasNoRun p items i × (is_cut ≡ false → BeginsARun p (take i items))
-IsExactly p items is_cut (Unexplained i OutOfSteps) = is_cut ≡ true
-IsExactly p items is_cut (Unexplained i NotReplayed) = BeginsARun p items
-IsExactly p items is_cut (Unexplained i doubt) = ⊥
+-- trace with those before it, unless the search was cut short; or a request at which it was cut short; or some run's trace begins with all
+-- these words
+abbrev pub IsExactly : Contents → List Seen → Option Limit → Verdict → Type 0
+IsExactly p items cut (Explained certificate files) = IsExplained p certificate items files
+IsExactly p items cut (Impossible i reason) = (i < length items) × HasNoRun p items i × (cut ≡ None → BeginsARun p (take i items))
+IsExactly p items cut (Unexplained i OutOfSteps) = IsSome cut × IsRequestAt p items i
+IsExactly p items cut (Unexplained i NotReplayed) = BeginsARun p items
+IsExactly p items cut (Unexplained i doubt) = ⊥
 
--- so the verdict is, by whether its search was cut short
-abbrev pub IsExact : Contents → List Seen → Decision → Type 0
-IsExact p items d = IsExactly p items d.is_cut d.verdict
+-- so the verdict is, by the limit by which its search was cut short; and a limit that is named was reached
+pub record IsExact (p : Contents) (items : List Seen) (cut : Option Limit) (v : Verdict) : Type 0 where
+  pub verdict : IsExactly p items cut v
+  pub reached : IfSome cut IsReached

@@ -1,5 +1,5 @@
 -- What a source may have done up to an attempt, as hypotheses that are carried from one attempt to the next (profile).
-use Rattle.std.specs.Prelude.{◌≡◌, ◌<◌, ◌≤◌, ◌⊎◌, ℕ, Bool, true, false, List, [], ◌∷◌, Option, Some, None, IfSome, is_some, length, slice_get, take}
+use Rattle.std.specs.Prelude.{◌≡◌, ◌<◌, ◌≤◌, ◌⊎◌, ℕ, Bool, true, false, List, [], ◌∷◌, Option, Some, None, IfSome, is_some, length, not, slice_get, take}
 use Rattle.a429_profile.specs.Profile.{Contents}
 use Rattle.a429_ldu.specs.Ldu.{LduValue}
 use Rattle.a429_link.specs.Assignment.{Assigned, GivesUp, IsNext, IsSound, LeavesFor}
@@ -10,13 +10,14 @@ use Rattle.a429_explain.specs.Decoded.{HeardValue}
 use Rattle.a429_explain.specs.Guess.{IsGuess}
 use Rattle.a429_search.specs.declared.attempts.Attempt.{Attempt}
 use Rattle.a429_search.specs.declared.groups.Group.{Group}
+use Rattle.a429_search.specs.declared.searching.CutAt.{CutAt}
 use Rattle.a429_search.specs.declared.searching.Hypothesis.{Hypothesis}
 use Rattle.a429_search.specs.declared.standing.Standing.{Standing}
 use Rattle.a429_search.specs.declared.searching.Found.{Found}
 use Rattle.a429_search.specs.declared.searching.Found.TheVariants as found
 use Rattle.a429_merge.specs.Block.{MayBeUnitOf}
 use Rattle.a429_contradiction.specs.Contradiction.{HasNoRun}
-use Rattle.a429_search.specs.Recorded.{IsAttemptFrom, MayBeTo}
+use Rattle.a429_search.specs.Recorded.{IsAttemptFrom, IsRequestAt, MayBeTo}
 use Rattle.a429_search.specs.Standing.{CanStand, IsAt, IsRegular, Stands, StandsLater, all_give_ups}
 
 -- the attempts of the group may have been attempts to send this link data unit
@@ -146,14 +147,28 @@ pub record TakesOn (p : Contents) (hyps : List Hypothesis) (a : Attempt) (new : 
   pub after : (heard ≡ next) ⊎ ((is_some a.acknowledged ≡ true) × (AreCarried p hyps a next → AreHeard p next heard))
   pub same : AreSame heard new
 
--- some run's words begin with these, unless an item is named from which on that is not sure
-pub record IsSureUnless (p : Contents) (items : List Seen) (unsure_at : Option ℕ) : Type 0 where
-  pub inside : IfSome unsure_at (λ i. i < length items)
-  pub sure : unsure_at ≡ None → BeginsARun p items
+-- ---- where a search was cut short
 
--- what a search answers: what is guessed of the run, and from where on it is not sure that there is one; or an entry with which no run's words
--- begin, where it was not cut short the first such entry; or one at which it was cut short
+-- nowhere, so that nothing is left out
+abbrev pub leaves_nothing_out : Option CutAt → Bool
+leaves_nothing_out o = not (is_some o)
+
+-- at the request of this attempt, or where one of two searches was before
+abbrev pub AreCuts : Option CutAt → Option CutAt → ℕ → Option CutAt → Type 0
+AreCuts one other entry new = IfSome new (λ c. (c.entry ≡ entry) ⊎ ((one ≡ Some c) ⊎ (other ≡ Some c)))
+
+-- at a request, if it was cut short
+abbrev pub IsAtRequest : Contents → List Seen → Option CutAt → Type 0
+IsAtRequest p items o = IfSome o (λ c. IsRequestAt p items c.entry)
+
+-- some run's words begin with these, unless the search was cut short at a request
+pub record IsSureUnless (p : Contents) (items : List Seen) (unsure : Option CutAt) : Type 0 where
+  pub at : IsAtRequest p items unsure
+  pub sure : unsure ≡ None → BeginsARun p items
+
+-- what a search answers: what is guessed of the run, and where it was cut short, if it is not sure that there is one; or an entry with which
+-- no run's words begin, where it was not cut short the first such entry; or a request at which it was cut short
 abbrev pub IsFound : HeardValue → Found → Type 0
-IsFound d (found.Run guess unsure_at) = IsGuess d.profile d.items guess × IsSureUnless d.profile d.items unsure_at
-IsFound d (found.NoRun entry is_cut) = (entry < length d.items) × HasNoRun d.profile d.items entry × (is_cut ≡ false → BeginsARun d.profile (take entry d.items))
-IsFound d (found.CutShort entry) = IfSome entry (λ i. i < length d.items)
+IsFound d (found.Run guess unsure) = IsGuess d.profile d.items guess × IsSureUnless d.profile d.items unsure
+IsFound d (found.NoRun entry cut) = (entry < length d.items) × HasNoRun d.profile d.items entry × (cut ≡ None → BeginsARun d.profile (take entry d.items))
+IsFound d (found.CutShort c) = IsRequestAt d.profile d.items c.entry

@@ -1,5 +1,5 @@
 -- An attempt as the search keeps it, by the words that were recorded of it (ARINC 429 Part 3).
-use Rattle.std.specs.Prelude.{◌≡◌, ℕ, ◌++◌, Bool, true, List, [], ◌∷◌, Option, Some, None, IfSome, is_some, take}
+use Rattle.std.specs.Prelude.{◌≡◌, ◌+◌, ◌<◌, ℕ, ◌++◌, Bool, true, List, [], ◌∷◌, Option, Some, None, IfSome, IsSome, is_some, length, slice_get, take}
 use Rattle.a429_word.specs.declared.bus.Bus.{Bus}
 use Rattle.a429_word.specs.declared.bus.Bus.TheVariants as bus
 use Rattle.a429_profile.specs.Profile.{Contents}
@@ -42,6 +42,14 @@ end_from c before (w ∷ words) = end_from c (end_by (form_of c bus.A w) before)
 abbrev pub asked_at : Codes → Option Seen → Option ℕ
 asked_at c None = None
 asked_at c (Some i) = asks i.bus (form_of c i.bus i.word)
+
+-- the item is a request
+abbrev pub IsRequestAt : Contents → List Seen → ℕ → Type 0
+IsRequestAt p items i = IsSome (asked_at p.codes (slice_get items i))
+
+-- none of the items after this one and before another is
+abbrev pub HasNoRequestBetween : Contents → List Seen → ℕ → ℕ → Type 0
+HasNoRequestBetween p items from to = (k : ℕ) → from < k → k < to → asked_at p.codes (slice_get items k) ≡ None
 
 -- the numbers of a start word
 abbrev pub number_of : Option StartWord → Option UnitNumber
@@ -94,6 +102,16 @@ pub record IsRecorded (c : Codes) (a : link.Attempt) (b : Attempt) : Type 0 wher
 pub record IsAttemptFrom (p : Contents) (items : List Seen) (from to : ℕ) (b : Attempt) : Type 0 where
   pub is : IsRecorded p.codes (latest p (take to items)) b
   pub all : attempts p (take to items) ≡ attempts p (take from items) ++ latest p (take to items) ∷ []
+
+-- all words of its block were recorded
+pub record IsWhole (b : Attempt) : Type 0 where
+  pub start : IsSome b.start
+  pub end : IsSome b.end
+  pub words : length b.words.items + 2 ≡ b.count
+
+-- it is whole, where it was acknowledged
+abbrev pub IsWholeIfHeard : Attempt → Type 0
+IsWholeIfHeard b = is_some b.acknowledged ≡ true → IsWhole b
 
 -- it may have been one to send this link data unit
 pub record MayBeOf (p : Contents) (b : Attempt) (u : LduValue) : Type 0 where

@@ -1,9 +1,9 @@
 //! Attempts to send a link data unit, as they were recorded.
 
-ghost use Rattle.std.specs.Prelude.{◌≡◌, ◌<◌, ◌≤◌, [], ◌∷◌, IfOk, IfSome, OnOk, Some, None, true, IsTrue, length, slice_get, take};
+ghost use Rattle.std.specs.Prelude.{◌≡◌, ◌<◌, ◌≤◌, [], ◌∷◌, IfOk, OnOk, Some, None, true, IsTrue, length, slice_get, take};
 ghost use Rattle.a429_profile.specs.declared.codes.Codes.{Codes};
 ghost use Rattle.a429_link.specs.Attempt.{attempts, fresh, latest};
-ghost use Rattle.a429_search.specs.Recorded.{IsAttemptFrom, IsRecorded, IsTaken, asked_at, gfi_of, number_of};
+ghost use Rattle.a429_search.specs.Recorded.{HasNoRequestBetween, IsAttemptFrom, IsRecorded, IsRequestAt, IsTaken, asked_at, gfi_of, number_of};
 
 use a429_explain::Decoded;
 use a429_ldu::Form;
@@ -40,6 +40,7 @@ pub(crate) struct Attempt {
 /// The entry of the first request; without one, how many entries there are.
 pub(crate) fn first_request(decoded: &Decoded) -> usize
     ensures inside { result ≤ length decoded.now.items }
+    ensures request { result < length decoded.now.items → IsRequestAt decoded.now.profile decoded.now.items result }
     ensures none { attempts decoded.now.profile (take result decoded.now.items) ≡ latest decoded.now.profile (take result decoded.now.items) ∷ [] }
 {
     for at in 0..decoded.len() {
@@ -55,6 +56,8 @@ pub(crate) fn next_request(decoded: &Decoded, from: usize) -> usize
     requires { from < length decoded.now.items }
     ensures later { from < result }
     ensures inside { result ≤ length decoded.now.items }
+    ensures request { result < length decoded.now.items → IsRequestAt decoded.now.profile decoded.now.items result }
+    ensures between { HasNoRequestBetween decoded.now.profile decoded.now.items from result }
 {
     let end = decoded.len();
     for at in from + 1..end {
@@ -65,30 +68,29 @@ pub(crate) fn next_request(decoded: &Decoded, from: usize) -> usize
     end
 }
 
-/// The attempt of the request at entry `from`, with what was recorded after it before entry `to`. `None` where there is no request at that
-/// entry, or another one follows before `to`.
+/// The attempt of the request at entry `from`, with what was recorded after it before entry `to`, up to which no other request follows.
 pub(crate) fn attempt_of(
     alloc: Global,
     decoded: &Decoded,
     from: usize,
     to: usize,
-) -> Result<Option<Attempt>, AllocError>
+) -> Result<Attempt, AllocError>
     requires some { from < to }
     requires inside { to ≤ length decoded.now.items }
-    ensures { IfOk result (λ found. IfSome found (IsAttemptFrom decoded.now.profile decoded.now.items from to)) }
+    requires request { IsRequestAt decoded.now.profile decoded.now.items from }
+    requires between { HasNoRequestBetween decoded.now.profile decoded.now.items from to }
+    ensures is { IfOk result (IsAttemptFrom decoded.now.profile decoded.now.items from to) }
+    ensures at { IfOk result (λ a. a.at ≡ from) }
 {
     let Some(count) = requested(decoded, from) else {
-        return Ok(None);
+        unreachable!();
     };
     let mut attempt = Attempt::new(alloc, from, count);
     for at in from + 1..to {
-        if requested(decoded, at).is_some() {
-            return Ok(None);
-        }
         let seen = decoded.seen(at);
         attempt.take(at, &seen, decoded.word(at).form)?;
     }
-    Ok(Some(attempt))
+    Ok(attempt)
 }
 
 // How many words the request at this entry asks for, where it is one.
@@ -105,7 +107,8 @@ fn requested(decoded: &Decoded, at: usize) -> Option<u8>
 impl Attempt {
     /// A request, after which nothing was recorded yet.
     pub(crate) fn new(alloc: Global, at: usize, count: u8) -> Attempt
-        ensures { (c : Codes) → IsRecorded c (fresh count) result }
+        ensures is { (c : Codes) → IsRecorded c (fresh count) result }
+        ensures at { result.at ≡ at }
     {
         Attempt {
             at,
@@ -144,7 +147,8 @@ impl Attempt {
         seen: &Seen,
         form: Option<Form>,
     ) -> Result<(), AllocError>
-        ensures { OnOk result (IsTaken seen.now.bus seen.now.word form self.old self.new) }
+        ensures taken { OnOk result (IsTaken seen.now.bus seen.now.word form self.old self.new) }
+        ensures at { self.new.at ≡ self.old.at }
     {
         match (seen.bus, form) {
             (Bus::A, Some(Form::Sot { gfi, file, ldu })) => {

@@ -1,7 +1,8 @@
 //! The decision on a recording: the check, then what its words contradict, and where no certificate is known a search for a run, or for
 //! the first word at which no run goes on.
 
-ghost use Rattle.std.specs.Prelude.{◌≡◌, ◌<◌, ℕ, true, false, Ok, IfOk, length};
+ghost use Rattle.std.specs.Prelude.{◌≡◌, ℕ, true, Ok, IfOk, IfSome, is_some, length};
+ghost use Rattle.a429_merge.specs.Budget.{IsReached};
 ghost use Rattle.a429_cert.specs.Explained.{items_of};
 ghost use Rattle.a429_explain.specs.Verdict.{IsSoundVerdict, IsOfSomeRun, IsAccepted, IsOfLeastVersion, IsDoubted, HasNoForm, IsImpossibility, IsExplanation};
 ghost use Rattle.a429_explain.specs.Walk.{AreAllowedUpTo};
@@ -9,12 +10,13 @@ ghost use Rattle.a429_explain.specs.WithoutLoss.{IsWithoutLoss};
 ghost use Rattle.a429_link.specs.Run.{BeginsARun};
 ghost use Rattle.a429_search.specs.Deciding.{IsExact, IsImpossibleBy, IsImpossibleUpTo, IsJudged, IsLookedBefore, IsOfCheck, IsReasonAt, IsSearchedBefore, IsWritten};
 
-use crate::searching::{Found, search_for_run};
+use crate::searching::{CutAt, Found, cut_of, search_for_run};
 use a429_cert::OutOfMemory;
 use a429_contradiction::laws::what_contradicts_has_no_run;
 use a429_contradiction::{Contradiction, first_contradiction};
 use a429_explain::walk::walk;
 use a429_explain::{Doubt, Explanation, Guess, Reason, Refusal, Verdict, check, explain_by};
+use a429_merge::{Cut, Limit};
 use a429_profile::Profile;
 use a429_record::Entry;
 use std::alloc::Global;
@@ -23,9 +25,9 @@ use std::alloc::Global;
 #[derive(Drop)]
 pub struct Decision {
     pub verdict: Verdict,
-    /// The search for a run was cut short. Only then the doubt is `OutOfSteps`, and only then an entry before one that is impossible may
-    /// be so, too.
-    pub is_cut: bool,
+    /// The limit that was reached, where the search for a run was cut short. Only then the doubt is `OutOfSteps`, and only then an entry
+    /// before one that is impossible may be so, too.
+    pub cut: Option<Limit>,
 }
 
 // What is found of words that are allowed.
@@ -34,25 +36,28 @@ enum Judged {
     // No run's words begin with those up to this entry. Where the search was not cut short, some run's words begin with those before it.
     NoRun {
         found: Contradiction,
-        is_cut: bool,
+        cut: Option<Cut>,
     },
-    // What is guessed of a run, and from where on it is not sure that there is one.
+    // What is guessed of a run, and where the search was cut short, if it is not sure that there is one.
     Guessed {
         guess: Guess,
-        unsure_at: Option<usize>,
+        unsure: Option<CutAt>,
     },
-    // Neither: the search was cut short, at this entry, where that is known.
-    CutShort(Option<usize>),
+    // Neither: the search was cut short.
+    CutShort(CutAt),
 }
 
 // What is found of words that are allowed, once the run that was guessed is written down.
 #[derive(Drop)]
 enum Written {
-    NoRun { found: Contradiction, is_cut: bool },
+    NoRun {
+        found: Contradiction,
+        cut: Option<Limit>,
+    },
     Run(Explanation),
     // Some run's words begin with these, and the steps that were guessed cannot be made at this entry.
     Begun(usize),
-    CutShort(Option<usize>),
+    CutShort(CutAt),
 }
 
 // What is found before an entry: one with which no run goes on, if there is one. Where the search was not cut short, some run's words begin
@@ -60,17 +65,16 @@ enum Written {
 #[derive(Clone, Copy)]
 struct Before {
     found: Option<Contradiction>,
-    is_cut: bool,
+    cut: Option<Cut>,
 }
 
 /// The verdict on a recording, under the profile of its bench: that of `check`, where it explains the recording. Else the
 /// recording is impossible from the first word on that those before it do not allow, or that contradicts them, by the
 /// first of `BadBlock`, `WrongNumber` and `OtherBlock` that holds; or from an earlier word on, by `NoRun`, at which a search finds that
 /// no run goes on. Where there is no such word, the certificate of a run that the search finds explains the recording. Else the
-/// doubt is `OutOfSteps`, at the request of an attempt: the one at which the search was cut short, or the first after which it was no longer
-/// sure; or `NotReplayed`, where some run's words begin so, at the entry at which the steps that the search guessed cannot be made.
+/// doubt is `OutOfSteps`, at the request of the attempt at which the search was cut short by a limit that it had reached; or `NotReplayed`, where some run's words begin so, at the entry at which the steps that the search guessed cannot be made.
 pub fn decide(alloc: Global, profile: &Profile, entries: &[Entry]) -> Result<Decision, OutOfMemory>
-    ensures exact { IfOk result (IsExact profile.now (items_of entries.now)) }
+    ensures exact { IfOk result (λ d. IsExact profile.now (items_of entries.now) d.cut d.verdict) }
     ensures explained { IfOk result (λ d. IsSoundVerdict profile.now (items_of entries.now) d.verdict) }
     ensures some_run { IfOk result (λ d. IsOfSomeRun profile.now (items_of entries.now) d.verdict) }
     ensures accepted { IfOk result (λ d. IsAccepted profile.now (items_of entries.now) d.verdict) }
@@ -83,48 +87,59 @@ pub fn decide(alloc: Global, profile: &Profile, entries: &[Entry]) -> Result<Dec
     ensures without_loss { IsWithoutLoss profile.now (items_of entries.now) → IfOk result (λ d. IsExplanation d.verdict) }
 {
     what_contradicts_has_no_run();
-    // (for the proof: the profile is sound)
-    let _codes = profile.codes();
+    let _codes = profile.codes(); // (for the proof: the profile is sound)
     match check(alloc, profile, entries)? {
         Verdict::Explained { certificate, files } => Ok(Decision {
             verdict: Verdict::Explained { certificate, files },
-            is_cut: false,
+            cut: None,
         }),
         Verdict::Impossible { entry, reason } => {
-            let Before { found, is_cut } = look_before(alloc, profile, &entries[..entry])?;
+            let Before { found, cut } = look_before(alloc, profile, &entries[..entry])?;
+            let cut = limit_of(cut);
             match found {
                 Some(Contradiction { entry, reason }) => {
                     let verdict = Verdict::Impossible { entry, reason };
-                    Ok(Decision { verdict, is_cut })
+                    Ok(Decision { verdict, cut })
                 }
                 None => {
                     let verdict = Verdict::Impossible { entry, reason };
-                    Ok(Decision { verdict, is_cut })
+                    Ok(Decision { verdict, cut })
                 }
             }
         }
-        Verdict::Unexplained { entry, .. } => match write_down(alloc, profile, entries)? {
-            Written::NoRun { found, is_cut } => {
+        Verdict::Unexplained { .. } => match write_down(alloc, profile, entries)? {
+            Written::NoRun { found, cut } => {
                 let Contradiction { entry, reason } = found;
                 let verdict = Verdict::Impossible { entry, reason };
-                Ok(Decision { verdict, is_cut })
+                Ok(Decision { verdict, cut })
             }
             Written::Run(Explanation { certificate, files }) => Ok(Decision {
                 verdict: Verdict::Explained { certificate, files },
-                is_cut: false,
+                cut: None,
             }),
             Written::Begun(entry) => {
-                let (doubt, is_cut) = (Doubt::NotReplayed, false);
+                let doubt = Doubt::NotReplayed;
                 let verdict = Verdict::Unexplained { entry, doubt };
-                Ok(Decision { verdict, is_cut })
+                Ok(Decision { verdict, cut: None })
             }
             Written::CutShort(at) => {
-                let (doubt, is_cut) = (Doubt::OutOfSteps, true);
-                let entry = at.unwrap_or(entry);
+                let (entry, doubt) = (at.entry, Doubt::OutOfSteps);
                 let verdict = Verdict::Unexplained { entry, doubt };
-                Ok(Decision { verdict, is_cut })
+                let cut = limit_of(Some(at.cut));
+                Ok(Decision { verdict, cut })
             }
         },
+    }
+}
+
+// Which limit was reached.
+fn limit_of(cut: Option<Cut>) -> Option<Limit>
+    ensures some { is_some result ≡ is_some cut }
+    ensures reached { IfSome result IsReached }
+{
+    match cut {
+        Some(cut) => Some(cut.limit()),
+        None => None,
     }
 }
 
@@ -153,21 +168,18 @@ fn look_before(alloc: Global, profile: &Profile, entries: &[Entry]) -> Result<Be
     ensures { IfOk result (IsLookedBefore profile.now (items_of entries.now)) }
 {
     match look_closer(alloc, profile, entries)? {
-        Judged::NoRun { found, is_cut } => {
+        Judged::NoRun { found, cut } => {
             let found = Some(found);
-            Ok(Before { found, is_cut })
+            Ok(Before { found, cut })
         }
-        Judged::Guessed { unsure_at, .. } => {
-            let is_cut = unsure_at.is_some();
-            Ok(Before {
-                found: None,
-                is_cut,
-            })
+        Judged::Guessed { unsure, .. } => {
+            let cut = cut_of(unsure);
+            Ok(Before { found: None, cut })
         }
-        Judged::CutShort(_) => Ok(Before {
-            found: None,
-            is_cut: true,
-        }),
+        Judged::CutShort(CutAt { cut, .. }) => {
+            let cut = Some(cut);
+            Ok(Before { found: None, cut })
+        }
     }
 }
 
@@ -177,12 +189,15 @@ fn write_down(alloc: Global, profile: &Profile, entries: &[Entry]) -> Result<Wri
     ensures { IfOk result (IsWritten profile.now (items_of entries.now)) }
 {
     match look_closer(alloc, profile, entries)? {
-        Judged::NoRun { found, is_cut } => Ok(Written::NoRun { found, is_cut }),
-        Judged::Guessed { guess, unsure_at } => {
+        Judged::NoRun { found, cut } => {
+            let cut = limit_of(cut);
+            Ok(Written::NoRun { found, cut })
+        }
+        Judged::Guessed { guess, unsure } => {
             match explain_by(alloc, profile, entries, guess) {
                 Ok(explanation) => Ok(Written::Run(explanation)),
-                Err(Refusal::NotReplayed { entry }) => match unsure_at {
-                    Some(entry) => Ok(Written::CutShort(Some(entry))),
+                Err(Refusal::NotReplayed { entry }) => match unsure {
+                    Some(at) => Ok(Written::CutShort(at)),
                     None => Ok(Written::Begun(entry)),
                 },
                 Err(Refusal::OutOfMemory) => Err(OutOfMemory),
@@ -198,61 +213,56 @@ fn look_closer(alloc: Global, profile: &Profile, entries: &[Entry]) -> Result<Ju
     ensures { IfOk result (IsJudged profile.now (items_of entries.now)) }
 {
     let Ok(decoded) = walk(alloc, profile, entries) else {
-        return Ok(Judged::CutShort(None));
+        unreachable!();
     };
     let Ok(found) = first_contradiction(alloc, &decoded) else {
         return Err(OutOfMemory);
     };
     if let Some(found) = found {
         let before = search_before(alloc, profile, &entries[..found.entry])?;
-        let is_cut = before.is_cut;
+        let cut = before.cut;
         return match before.found {
             Some(earlier) => Ok(Judged::NoRun {
                 found: earlier,
-                is_cut,
+                cut,
             }),
-            None => Ok(Judged::NoRun { found, is_cut }),
+            None => Ok(Judged::NoRun { found, cut }),
         };
     }
     match search_for_run(alloc, &decoded) {
-        Ok(Found::Run { guess, unsure_at }) => Ok(Judged::Guessed { guess, unsure_at }),
-        Ok(Found::NoRun { entry, is_cut }) => {
+        Ok(Found::Run { guess, unsure }) => Ok(Judged::Guessed { guess, unsure }),
+        Ok(Found::NoRun { entry, cut }) => {
             let reason = Reason::NoRun;
             let found = Contradiction { entry, reason };
-            Ok(Judged::NoRun { found, is_cut })
+            Ok(Judged::NoRun { found, cut })
         }
-        Ok(Found::CutShort { entry }) => Ok(Judged::CutShort(entry)),
+        Ok(Found::CutShort(at)) => Ok(Judged::CutShort(at)),
         Err(_) => Err(OutOfMemory),
     }
 }
 
 // The first word at which a search finds that no run goes on.
 fn search_before(alloc: Global, profile: &Profile, entries: &[Entry]) -> Result<Before, OutOfMemory>
+    requires { AreAllowedUpTo profile.now (items_of entries.now) (length (items_of entries.now)) }
     ensures { IfOk result (IsSearchedBefore profile.now (items_of entries.now)) }
 {
     let Ok(decoded) = walk(alloc, profile, entries) else {
-        return Ok(Before {
-            found: None,
-            is_cut: true,
-        });
+        unreachable!();
     };
     match search_for_run(alloc, &decoded) {
-        Ok(Found::NoRun { entry, is_cut }) => {
+        Ok(Found::NoRun { entry, cut }) => {
             let reason = Reason::NoRun;
             let found = Some(Contradiction { entry, reason });
-            Ok(Before { found, is_cut })
+            Ok(Before { found, cut })
         }
-        Ok(Found::Run { unsure_at, .. }) => {
-            let is_cut = unsure_at.is_some();
-            Ok(Before {
-                found: None,
-                is_cut,
-            })
+        Ok(Found::Run { unsure, .. }) => {
+            let cut = cut_of(unsure);
+            Ok(Before { found: None, cut })
         }
-        Ok(Found::CutShort { .. }) => Ok(Before {
-            found: None,
-            is_cut: true,
-        }),
+        Ok(Found::CutShort(CutAt { cut, .. })) => {
+            let cut = Some(cut);
+            Ok(Before { found: None, cut })
+        }
         Err(_) => Err(OutOfMemory),
     }
 }

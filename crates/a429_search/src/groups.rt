@@ -1,6 +1,6 @@
 //! Groups: attempts of one link data unit.
 
-ghost use Rattle.std.specs.Prelude.{◌≡◌, ◌≤◌, ℕ, Ok, None, true, false, IfOk, IfSome, IsTrue, SomeIndex};
+ghost use Rattle.std.specs.Prelude.{◌≡◌, ◌≤◌, ℕ, Ok, None, true, false, IfNone, IfOk, IfSome, IsTrue, SomeIndex, length};
 ghost use Rattle.a429_link.specs.Run.{IsSubsequenceOf};
 ghost use Rattle.a429_merge.specs.Order.{lists_of, words_at};
 ghost use Rattle.a429_profile.specs.Profile.{Contents};
@@ -10,7 +10,7 @@ ghost use Rattle.a429_search.specs.Recorded.{Agree, MayBeOf};
 
 use crate::attempts::Attempt;
 use a429_ldu::{Ldu, LduFault};
-use a429_merge::{Budget, EndWord, GroupPieces, is_in_some, lists_with, unit_of_pieces};
+use a429_merge::{Budget, EndWord, GroupPieces, Limit, is_in_some, lists_with, unit_of_pieces};
 use a429_profile::Profile;
 use std::alloc::{AllocError, Global};
 
@@ -37,8 +37,8 @@ impl Group {
         ensures covers { IfOk result (λ found. IfSome found (λ g. (u : LduValue) → MayBeOf profile.now attempt.now u → MayBeUnitOf profile.now g.pieces u)) }
         ensures only { IfOk result (λ found. IfSome found (λ g. (u : LduValue) → MayBeUnitOf profile.now g.pieces u → MayBeOf profile.now attempt.now u)) }
         ensures unit { IfOk result (λ found. IfSome found (λ g. MayBeUnitOf profile.now g.pieces g.unit)) }
-        ensures none { result ≡ Ok None → budget.new.is_cut ≡ false → (u : LduValue) → ¬ MayBeOf profile.now attempt.now u }
-        ensures cut { budget.old.is_cut ≡ true → budget.new.is_cut ≡ true }
+        ensures none { result ≡ Ok None → budget.new.cut ≡ None → (u : LduValue) → ¬ MayBeOf profile.now attempt.now u }
+        ensures cut { budget.new.cut ≡ None → budget.old.cut ≡ None }
     {
         let mut attempts = Vec::new(alloc);
         attempts.push(Vec::from_slice(alloc, &attempt.words)?)?;
@@ -67,20 +67,20 @@ impl Group {
         ensures covers { IfOk result (λ found. IfSome found (λ g. (u : LduValue) → MayBeUnitOf profile.now self.now.pieces u → MayBeOf profile.now attempt.now u → MayBeUnitOf profile.now g.pieces u)) }
         ensures only { IfOk result (λ found. IfSome found (λ g. (u : LduValue) → MayBeUnitOf profile.now g.pieces u → MayBeUnitOf profile.now self.now.pieces u × MayBeOf profile.now attempt.now u)) }
         ensures unit { MayBeUnitOf profile.now self.now.pieces self.now.unit → IfOk result (λ found. IfSome found (λ g. MayBeUnitOf profile.now g.pieces g.unit)) }
-        ensures none { result ≡ Ok None → budget.new.is_cut ≡ false → (u : LduValue) → MayBeUnitOf profile.now self.now.pieces u → ¬ MayBeOf profile.now attempt.now u }
-        ensures cut { budget.old.is_cut ≡ true → budget.new.is_cut ≡ true }
+        ensures none { result ≡ Ok None → budget.new.cut ≡ None → (u : LduValue) → MayBeUnitOf profile.now self.now.pieces u → ¬ MayBeOf profile.now attempt.now u }
+        ensures cut { budget.new.cut ≡ None → budget.old.cut ≡ None }
     {
         if self.contradicts(attempt) {
             return Ok(None);
         }
-        if budget.is_spent() {
-            budget.cut();
+        if budget.runs_out() {
             return Ok(None);
         }
         budget.spend(self.steps_to_compare());
         let is_new = !is_in_some(&attempt.words, &self.pieces.attempts);
         let Some(pieces) = self.pieces_with(alloc, attempt, is_new, budget)? else {
-            budget.cut();
+            let recorded = self.pieces.attempts.len() + 1;
+            budget.cut(Limit::Attempts { recorded });
             return Ok(None);
         };
         let at = self.at;
@@ -122,7 +122,8 @@ impl Group {
         ensures covers { IfOk result (λ found. IfSome found (λ g. (p : Contents) (u : LduValue) → MayBeUnitOf p self.now.pieces u → MayBeOf p attempt.now u → MayBeUnitOf p g u)) }
         ensures only { Agree self.now.pieces attempt.now → IfOk result (λ found. IfSome found (λ g. (p : Contents) (u : LduValue) → MayBeUnitOf p g u → MayBeUnitOf p self.now.pieces u × MayBeOf p attempt.now u)) }
         ensures same { is_new ≡ false → IfOk result (λ found. IfSome found (λ g. (g.gfi ≡ self.now.pieces.gfi) → (g.end ≡ self.now.pieces.end) → (p : Contents) (u : LduValue) → MayBeUnitOf p self.now.pieces u → MayBeUnitOf p g u)) }
-        ensures cut { budget.new.is_cut ≡ budget.old.is_cut }
+        ensures none { IfOk result (λ found. IfNone found (16 ≤ length self.now.pieces.attempts.items)) }
+        ensures cut { budget.new.cut ≡ budget.old.cut }
     {
         let taken = &self.pieces.attempts;
         let Some(attempts) = lists_with(alloc, taken, &attempt.words, is_new, budget)? else {
@@ -176,21 +177,24 @@ fn unit_found(
     budget: &mut Budget,
 ) -> Result<Option<Ldu>, AllocError>
     ensures some { IfOk result (λ found. IfSome found (MayBeUnitOf profile.now pieces.now)) }
-    ensures exact { result ≡ Ok None → budget.new.is_cut ≡ false → (u : LduValue) → ¬ MayBeUnitOf profile.now pieces.now u }
-    ensures cut { budget.old.is_cut ≡ true → budget.new.is_cut ≡ true }
+    ensures exact { result ≡ Ok None → budget.new.cut ≡ None → (u : LduValue) → ¬ MayBeUnitOf profile.now pieces.now u }
+    ensures cut { budget.new.cut ≡ None → budget.old.cut ≡ None }
 {
-    if budget.is_spent() || !are_in_range(pieces) {
-        budget.cut();
+    if budget.runs_out() {
+        return Ok(None);
+    }
+    if !are_in_range(pieces) {
         return Ok(None);
     }
     unit_of_pieces(alloc, profile, pieces, budget)
 }
 
-// Always, of what was recorded.
+// What every link data unit has: three words or more, and a general format identifier and flags of four bits.
 fn are_in_range(pieces: &GroupPieces) -> bool
     ensures count { result ≡ true → 3 ≤ pieces.now.count }
     ensures gfi { result ≡ true → IfSome pieces.now.gfi (λ n. n ≤ 15) }
     ensures flags { result ≡ true → IfSome pieces.now.end (λ e. e.flags ≤ 15) }
+    ensures out { result ≡ false → (p : Contents) (u : LduValue) → ¬ MayBeUnitOf p pieces.now u }
 {
     let gfi = match pieces.gfi {
         Some(gfi) => gfi <= 15,

@@ -7,8 +7,8 @@ ghost use Rattle.a429_link.specs.Assignment.{Assigned, IsSound};
 ghost use Rattle.a429_explain.specs.Guess.{IsGuess};
 ghost use Rattle.a429_explain.specs.Walk.{AreAllowedUpTo};
 ghost use Rattle.a429_merge.specs.Block.{MayBeUnitOf};
-ghost use Rattle.a429_search.specs.Frontier.{AddCarried, AreAt, AreCarried, AreCovered, AreHeard, AreKept, AreReal, AreSame, CarriesOn, Covers, FitsGroup, FitsNone, FitsSome, GoOnFrom, HasFewest, IsAmong, IsFound, IsReal, IsRefused, IsStart, TakesOn};
-ghost use Rattle.a429_search.specs.Recorded.{MayBeOf, MayBeTo, number_of};
+ghost use Rattle.a429_search.specs.Frontier.{AddCarried, AreAt, AreCarried, AreCovered, AreCuts, AreHeard, AreKept, AreReal, AreSame, CarriesOn, Covers, FitsGroup, FitsNone, FitsSome, GoOnFrom, HasFewest, IsAmong, IsFound, IsReal, IsRefused, IsStart, TakesOn, leaves_nothing_out};
+ghost use Rattle.a429_search.specs.Recorded.{HasNoRequestBetween, IsRequestAt, IsWhole, IsWholeIfHeard, MayBeOf, MayBeTo, number_of};
 ghost use Rattle.a429_search.specs.Standing.{Begins, IsAt, MakeNothingUp, Stands, StandsLater};
 
 use crate::attempts::{Attempt, attempt_of, first_request, next_request};
@@ -18,7 +18,7 @@ use crate::trail::{Course, Trail, with_heard};
 use a429_explain::{Decoded, Guess, roles};
 use a429_link::laws::attempts::runs_record_what_can_be_assigned;
 use a429_link::{UnitNumber, is_final};
-use a429_merge::{Budget, STEPS_A_WORD};
+use a429_merge::{Budget, Cut, STEPS_A_WORD};
 use a429_profile::Profile;
 use std::alloc::{AllocError, Global};
 
@@ -35,24 +35,24 @@ pub(crate) struct Hypothesis {
     pub closed: Option<usize>,
 }
 
+/// Where a search was cut short.
+#[derive(Clone, Copy)]
+pub(crate) struct CutAt {
+    /// The entry of the request of the attempt at which it was, counted from 0.
+    pub entry: usize,
+    /// The limit that was reached there.
+    pub cut: Cut,
+}
+
 /// What a search finds.
 #[derive(Drop)]
 pub(crate) enum Found {
-    /// What is guessed of a run. Where the search is not sure that some run's words begin with these, the entry of the request of the first
-    /// attempt after which it is not.
-    Run {
-        guess: Guess,
-        unsure_at: Option<usize>,
-    },
+    /// What is guessed of a run, and where the search was cut short, if it is not sure that some run's words begin with these.
+    Run { guess: Guess, unsure: Option<CutAt> },
     /// No run's words begin with those up to this entry. Where the search was not cut short, some run's words begin with those before it.
-    NoRun {
-        entry: usize,
-        is_cut: bool,
-    },
-    /// Neither: the search was cut short. The entry is that of the request at which it first was, where that is known.
-    CutShort {
-        entry: Option<usize>,
-    },
+    NoRun { entry: usize, cut: Option<Cut> },
+    /// Neither: the search was cut short.
+    CutShort(CutAt),
 }
 
 // Where an attempt stops fitting hypotheses.
@@ -60,8 +60,17 @@ pub(crate) enum Found {
 struct Misfit {
     // The entry with which it fits none of them.
     entry: usize,
-    // Up to before that entry it fits one of them.
-    fits_before: bool,
+    // Up to before that entry it fits one of them, unless a search was cut short.
+    cut: Option<Cut>,
+}
+
+// Whether an attempt fits one of some hypotheses.
+#[derive(Clone, Copy)]
+enum Fit {
+    One,
+    None,
+    // A search was cut short.
+    Open(Cut),
 }
 
 // What carries hypotheses on: the groups that they have closed, and the steps that are left.
@@ -76,10 +85,10 @@ struct Carrier<'a> {
 #[derive(Drop)]
 struct Search<'a> {
     hypotheses: Vec<Hypothesis>,
-    // The hypotheses leave nothing out that the source may have done.
-    is_whole: bool,
-    // They make nothing up: what each of them says the source can have done.
-    is_sure: bool,
+    // Where the search was cut short, if the hypotheses may leave something out that the source may have done.
+    left_out: Option<CutAt>,
+    // And if they may make something up: that what each of them says the source can have done is not sure.
+    unsure: Option<CutAt>,
     carrier: Carrier<'a>,
 }
 
@@ -94,42 +103,46 @@ pub(crate) fn search_for_run(alloc: Global, decoded: &Decoded) -> Result<Found, 
     let profile = decoded.profile();
     let mut search = Search::new(alloc, decoded)?;
     let mut from = first_request(decoded);
-    let mut cut_at = None;
-    let mut unsure_at = None;
     'attempts: while from < decoded.len() {
         let to = next_request(decoded, from);
-        let Some(attempt) = attempt_of(alloc, decoded, from, to)? else {
-            // Never: there is a request, and no other before the next one.
-            return Ok(Found::CutShort { entry: None });
-        };
+        let attempt = attempt_of(alloc, decoded, from, to)?;
         if !search.take(profile, &attempt)? {
-            let is_sure = search.is_sure;
-            let Misfit { entry, fits_before } = search.misfit(decoded, from, to)?;
-            let is_cut = !(is_sure && fits_before);
-            return Ok(Found::NoRun { entry, is_cut });
+            let unsure = search.unsure;
+            let misfit = search.misfit(decoded, from, to)?;
+            let entry = misfit.entry;
+            let cut = cut_of(unsure).or(misfit.cut);
+            return Ok(Found::NoRun { entry, cut });
         }
-        cut_at = if search.is_whole {
-            None
-        } else {
-            cut_at.or(Some(from))
-        };
-        unsure_at = if search.is_sure {
-            None
-        } else {
-            unsure_at.or(Some(from))
-        };
         from = to;
     }
+    let Search {
+        left_out,
+        unsure,
+        ..
+    } = search;
     match search.guess(decoded)? {
-        Some(guess) => Ok(Found::Run { guess, unsure_at }),
-        None => Ok(Found::CutShort { entry: cut_at }),
+        Some(guess) => Ok(Found::Run { guess, unsure }),
+        None => match left_out {
+            Some(cut) => Ok(Found::CutShort(cut)),
+            None => unreachable!(),
+        },
+    }
+}
+
+/// The limit that was reached.
+pub(crate) fn cut_of(at: Option<CutAt>) -> Option<Cut>
+    ensures { result ≡ None → at ≡ None }
+{
+    match at {
+        Some(at) => Some(at.cut),
+        None => None,
     }
 }
 
 impl<'a> Search<'a> {
     fn new(alloc: Global, decoded: &Decoded<'a>) -> Result<Search<'a>, AllocError>
         ensures start { IfOk result (λ s. IsStart s.hypotheses.items) }
-        ensures sure { IfOk result (λ s. s.is_sure ≡ true) }
+        ensures uncut { IfOk result (λ s. (s.left_out ≡ None) × (s.unsure ≡ None)) }
     {
         let mut hypotheses = Vec::new(alloc);
         hypotheses.push(Hypothesis {
@@ -140,8 +153,8 @@ impl<'a> Search<'a> {
         })?;
         Ok(Search {
             hypotheses,
-            is_whole: true,
-            is_sure: true,
+            left_out: None,
+            unsure: None,
             carrier: Carrier {
                 alloc,
                 trail: Trail::new(alloc, decoded.profile()),
@@ -152,28 +165,36 @@ impl<'a> Search<'a> {
 
     // Carries the hypotheses on to an attempt. `false`, and they stay, where it fits none of them.
     fn take(&mut self, profile: &Profile, attempt: &Attempt) -> Result<bool, AllocError>
-        ensures refused { IfOk result (λ goes_on. goes_on ≡ false → (self.new.hypotheses ≡ self.old.hypotheses) × (self.new.is_sure ≡ self.old.is_sure) × (self.old.is_whole ≡ true) × FitsNone profile.now self.old.hypotheses.items attempt.now) }
-        ensures covers { IfOk result (λ goes_on. goes_on ≡ true → self.new.is_whole ≡ true → GoOnFrom profile.now self.old.is_whole self.old.hypotheses.items attempt.now self.new.hypotheses.items) }
-        ensures sure { IfOk result (λ goes_on. goes_on ≡ true → self.new.is_sure ≡ true → (self.old.is_sure ≡ true) × TakesOn profile.now self.old.hypotheses.items attempt.now self.new.hypotheses.items) }
+        requires whole { IsWholeIfHeard attempt.now }
+        ensures refused { IfOk result (λ goes_on. goes_on ≡ false → (self.new.hypotheses ≡ self.old.hypotheses) × (self.new.unsure ≡ self.old.unsure) × (self.old.left_out ≡ None) × FitsNone profile.now self.old.hypotheses.items attempt.now) }
+        ensures covers { IfOk result (λ goes_on. goes_on ≡ true → self.new.left_out ≡ None → GoOnFrom profile.now (leaves_nothing_out self.old.left_out) self.old.hypotheses.items attempt.now self.new.hypotheses.items) }
+        ensures sure { IfOk result (λ goes_on. goes_on ≡ true → self.new.unsure ≡ None → (self.old.unsure ≡ None) × TakesOn profile.now self.old.hypotheses.items attempt.now self.new.hypotheses.items) }
+        ensures some { IfOk result (λ goes_on. goes_on ≡ true → self.new.left_out ≡ None → self.new.hypotheses.items ≡ [] → ⊥) }
+        ensures cuts { IfOk result (λ goes_on. AreCuts self.old.left_out self.old.unsure attempt.now.at self.new.left_out × AreCuts self.old.left_out self.old.unsure attempt.now.at self.new.unsure) }
     {
         let next = self.carrier.carried(profile, &self.hypotheses, attempt)?;
-        let is_whole = self.is_still_whole();
+        let left_out = self.cut_at(attempt.at);
+        let is_whole = left_out.is_none();
         if is_whole && are_none(&next) {
             return Ok(false);
         }
         if attempt.acknowledged.is_none() {
-            self.is_whole = is_whole;
+            self.left_out = left_out;
             self.hypotheses = self.carrier.trail.leave_out(next)?;
             return Ok(true);
         }
         let heard = self.carrier.heard(profile, &next, is_whole, attempt)?;
         let Some(heard) = heard else {
-            self.is_whole = false;
+            // (where no search was cut short, no link data unit is that of the attempt)
+            let Some(cut) = self.cut_at(attempt.at) else {
+                return Ok(false);
+            };
+            self.left_out = Some(cut);
             self.hypotheses = next;
             return Ok(true);
         };
-        self.is_sure = self.is_sure && is_whole;
-        self.is_whole = true;
+        self.unsure = self.unsure.or(left_out);
+        self.left_out = None;
         self.hypotheses = self.carrier.trail.leave_out(heard)?;
         Ok(true)
     }
@@ -182,27 +203,38 @@ impl<'a> Search<'a> {
     fn misfit(&mut self, decoded: &Decoded, from: usize, to: usize) -> Result<Misfit, AllocError>
         requires some { from < to }
         requires inside { to ≤ length decoded.now.items }
+        requires request { IsRequestAt decoded.now.profile decoded.now.items from }
+        requires between { HasNoRequestBetween decoded.now.profile decoded.now.items from to }
+        requires left { self.old.hypotheses.items ≡ [] → ⊥ }
         requires refused { IsRefused decoded.now.profile decoded.now.items self.old.hypotheses.items from to }
         ensures inside { IfOk result (λ m. m.entry < to) }
         ensures refused { IfOk result (λ m. IsRefused decoded.now.profile decoded.now.items self.old.hypotheses.items from (m.entry + 1)) }
-        ensures fits { IfOk result (λ m. m.fits_before ≡ true → FitsSome decoded.now.profile decoded.now.items self.old.hypotheses.items from m.entry) }
+        ensures fits { IfOk result (λ m. m.cut ≡ None → FitsSome decoded.now.profile decoded.now.items self.old.hypotheses.items from m.entry) }
     {
         let hypotheses = &self.hypotheses;
         self.carrier.misfit(decoded, hypotheses, from, to)
     }
 
-    // Nothing was left out, nor at the last attempt.
-    fn is_still_whole(&self) -> bool
-        ensures whole { result ≡ true → self.now.is_whole ≡ true }
-        ensures uncut { result ≡ true → self.now.carrier.budget.is_cut ≡ false }
+    // Where the search was cut short, if something was left out before, or at the last attempt, whose request is this entry.
+    fn cut_at(&self, entry: usize) -> Option<CutAt>
+        ensures whole { result ≡ None → self.now.left_out ≡ None }
+        ensures uncut { result ≡ None → self.now.carrier.budget.cut ≡ None }
+        ensures at { IfSome result (λ c. (c.entry ≡ entry) ⊎ (self.now.left_out ≡ Some c)) }
     {
-        self.is_whole && !self.carrier.budget.is_cut()
+        if self.left_out.is_some() {
+            return self.left_out;
+        }
+        match self.carrier.budget.cut_by() {
+            Some(cut) => Some(CutAt { entry, cut }),
+            None => None,
+        }
     }
 
     // What is guessed by the hypothesis with the fewest files given up; `None` where none is left.
     fn guess(self, decoded: &Decoded) -> Result<Option<Guess>, AllocError>
         ensures guess { IfOk result (λ found. IfSome found (IsGuess decoded.now.profile decoded.now.items)) }
         ensures some { IfOk result (λ found. IfSome found (λ g. (k : ℕ) × (h : Hypothesis) × (slice_get self.entry.hypotheses.items k ≡ Some h))) }
+        ensures none { result ≡ Ok None → self.entry.hypotheses.items ≡ [] }
     {
         let Search {
             hypotheses,
@@ -241,7 +273,7 @@ impl<'a> Carrier<'a> {
         hypotheses: &[Hypothesis],
         attempt: &Attempt,
     ) -> Result<Vec<Hypothesis>, AllocError>
-        ensures covers { IfOk result (λ next. self.new.budget.is_cut ≡ false → CarriesOn profile.now hypotheses.now attempt.now next.items) }
+        ensures covers { IfOk result (λ next. self.new.budget.cut ≡ None → CarriesOn profile.now hypotheses.now attempt.now next.items) }
         ensures at { IfOk result (λ next. AreAt (number_of attempt.now.start) next.items) }
         ensures only { IfOk result (λ next. AreReal profile.now hypotheses.now → AreCarried profile.now hypotheses.now attempt.now next.items) }
     {
@@ -263,56 +295,58 @@ impl<'a> Carrier<'a> {
     ) -> Result<Misfit, AllocError>
         requires some { from < to }
         requires inside { to ≤ length decoded.now.items }
+        requires request { IsRequestAt decoded.now.profile decoded.now.items from }
+        requires between { HasNoRequestBetween decoded.now.profile decoded.now.items from to }
+        requires left { hypotheses.now ≡ [] → ⊥ }
         requires refused { IsRefused decoded.now.profile decoded.now.items hypotheses.now from to }
         ensures inside { IfOk result (λ m. m.entry < to) }
         ensures refused { IfOk result (λ m. IsRefused decoded.now.profile decoded.now.items hypotheses.now from (m.entry + 1)) }
-        ensures fits { IfOk result (λ m. m.fits_before ≡ true → FitsSome decoded.now.profile decoded.now.items hypotheses.now from m.entry) }
+        ensures fits { IfOk result (λ m. m.cut ≡ None → FitsSome decoded.now.profile decoded.now.items hypotheses.now from m.entry) }
     {
         let mut fits = from;
-        let mut is_known = !are_none(hypotheses);
         let mut refused = to;
-        for _ in 0..usize::BITS {
+        let mut cut = None;
+        'halving: while refused - fits > 1 {
             let half = fits + (refused - fits) / 2;
-            if half <= fits {
-                break;
-            }
-            let found = self.fits(decoded, hypotheses, from, half)?;
-            if found == Some(false) {
-                refused = half;
-            } else {
-                fits = half;
-                is_known = found.is_some();
+            match self.fits(decoded, hypotheses, from, half)? {
+                Fit::None => refused = half,
+                Fit::One => {
+                    fits = half;
+                    cut = None;
+                }
+                Fit::Open(limit) => {
+                    fits = half;
+                    cut = Some(limit);
+                }
             }
         }
-        let entry = refused - 1;
-        let fits_before = is_known && fits == entry;
-        Ok(Misfit { entry, fits_before })
+        Ok(Misfit { entry: fits, cut })
     }
 
-    // Whether the attempt from one entry up to before another fits one of the hypotheses; `None` where that is not known.
+    // Whether the attempt from one entry up to before another fits one of the hypotheses.
     fn fits(
         &mut self,
         decoded: &Decoded,
         hypotheses: &[Hypothesis],
         from: usize,
         to: usize,
-    ) -> Result<Option<bool>, AllocError>
+    ) -> Result<Fit, AllocError>
         requires some { from < to }
         requires inside { to ≤ length decoded.now.items }
-        ensures refused { result ≡ Ok (Some false) → IsRefused decoded.now.profile decoded.now.items hypotheses.now from to }
-        ensures fits { result ≡ Ok (Some true) → FitsSome decoded.now.profile decoded.now.items hypotheses.now from to }
+        requires request { IsRequestAt decoded.now.profile decoded.now.items from }
+        requires between { HasNoRequestBetween decoded.now.profile decoded.now.items from to }
+        ensures refused { result ≡ Ok Fit.None → IsRefused decoded.now.profile decoded.now.items hypotheses.now from to }
+        ensures fits { result ≡ Ok Fit.One → FitsSome decoded.now.profile decoded.now.items hypotheses.now from to }
     {
-        let Some(attempt) = attempt_of(self.alloc, decoded, from, to)? else {
-            return Ok(None);
-        };
+        let attempt = attempt_of(self.alloc, decoded, from, to)?;
         let next = self.carried(decoded.profile(), hypotheses, &attempt)?;
         if !are_none(&next) {
-            return Ok(Some(true));
+            return Ok(Fit::One);
         }
-        if self.budget.is_cut() {
-            return Ok(None);
+        match self.budget.cut_by() {
+            Some(cut) => Ok(Fit::Open(cut)),
+            None => Ok(Fit::None),
         }
-        Ok(Some(false))
     }
 
     // Puts a hypothesis carried on to an attempt to the others, in each way in which the source may have come to it.
@@ -323,11 +357,11 @@ impl<'a> Carrier<'a> {
         attempt: &Attempt,
         next: &mut Vec<Hypothesis>,
     ) -> Result<(), AllocError>
-        ensures covers { OnOk result (self.new.budget.is_cut ≡ false → (t : Assigned) → IsSound profile.now t → MayBeTo profile.now attempt.now t → Covers profile.now hypothesis.now t → AreCovered profile.now next.new.items t) }
+        ensures covers { OnOk result (self.new.budget.cut ≡ None → (t : Assigned) → IsSound profile.now t → MayBeTo profile.now attempt.now t → Covers profile.now hypothesis.now t → AreCovered profile.now next.new.items t) }
         ensures kept { OnOk result (AreKept next.old.items next.new.items) }
         ensures at { OnOk result (AreAt (number_of attempt.now.start) next.old.items → AreAt (number_of attempt.now.start) next.new.items) }
         ensures only { OnOk result (IsReal profile.now hypothesis.now.standing hypothesis.now.group → AddCarried profile.now hypothesis.now attempt.now next.old.items next.new.items) }
-        ensures cut { self.old.budget.is_cut ≡ true → self.new.budget.is_cut ≡ true }
+        ensures cut { self.new.budget.cut ≡ None → self.old.budget.cut ≡ None }
     {
         let first_ldu = profile.codes().first_ldu;
         let has_group = hypothesis.group.is_some();
@@ -350,12 +384,12 @@ impl<'a> Carrier<'a> {
         ways: &Ways,
         next: &mut Vec<Hypothesis>,
     ) -> Result<bool, AllocError>
-        ensures covers { IfOk result (λ joins. self.new.budget.is_cut ≡ false → (t : Assigned) → MayBeOf profile.now attempt.now t.unit → FitsGroup profile.now hypothesis.now.group t.unit → IfSome ways.now.join (λ j. IsAmong profile.now.codes.first_ldu j t → AreCovered profile.now next.new.items t)) }
+        ensures covers { IfOk result (λ joins. self.new.budget.cut ≡ None → (t : Assigned) → MayBeOf profile.now attempt.now t.unit → FitsGroup profile.now hypothesis.now.group t.unit → IfSome ways.now.join (λ j. IsAmong profile.now.codes.first_ldu j t → AreCovered profile.now next.new.items t)) }
         ensures later { IfOk result (λ joins. joins ≡ true → (t : Assigned) → IfSome ways.now.join (λ j. StandsLater profile.now.codes.first_ldu j t.number t.give_ups) → AreCovered profile.now next.new.items t) }
         ensures kept { OnOk result (AreKept next.old.items next.new.items) }
         ensures only { OnOk result (MakeNothingUp profile.now.codes.first_ldu hypothesis.now.standing (number_of attempt.now.start) (is_some hypothesis.now.group) ways.now → IsReal profile.now hypothesis.now.standing hypothesis.now.group → AddCarried profile.now hypothesis.now attempt.now next.old.items next.new.items) }
         ensures at { OnOk result ((start : Option UnitNumber) → IfSome start (λ n. IfSome ways.now.join (IsAt n)) → AreAt start next.old.items → AreAt start next.new.items) }
-        ensures cut { self.old.budget.is_cut ≡ true → self.new.budget.is_cut ≡ true }
+        ensures cut { self.new.budget.cut ≡ None → self.old.budget.cut ≡ None }
     {
         let Some(standing) = ways.join else {
             return Ok(false);
@@ -381,11 +415,11 @@ impl<'a> Carrier<'a> {
         ways: &Ways,
         next: &mut Vec<Hypothesis>,
     ) -> Result<(), AllocError>
-        ensures covers { OnOk result (self.new.budget.is_cut ≡ false → (t : Assigned) → MayBeOf profile.now attempt.now t.unit → Begins ways.now (λ b. Stands profile.now.codes.first_ldu b t.number t.give_ups) → AreCovered profile.now next.new.items t) }
+        ensures covers { OnOk result (self.new.budget.cut ≡ None → (t : Assigned) → MayBeOf profile.now attempt.now t.unit → Begins ways.now (λ b. Stands profile.now.codes.first_ldu b t.number t.give_ups) → AreCovered profile.now next.new.items t) }
         ensures kept { OnOk result (AreKept next.old.items next.new.items) }
         ensures only { OnOk result (MakeNothingUp profile.now.codes.first_ldu hypothesis.now.standing (number_of attempt.now.start) (is_some hypothesis.now.group) ways.now → IsReal profile.now hypothesis.now.standing hypothesis.now.group → AddCarried profile.now hypothesis.now attempt.now next.old.items next.new.items) }
         ensures at { OnOk result ((start : Option UnitNumber) → IfSome start (λ n. IfSome ways.now.begin (λ b. IsAt n b.1)) → AreAt start next.old.items → AreAt start next.new.items) }
-        ensures cut { self.old.budget.is_cut ≡ true → self.new.budget.is_cut ≡ true }
+        ensures cut { self.new.budget.cut ≡ None → self.old.budget.cut ≡ None }
     {
         let Some((before, standing)) = ways.begin else {
             return Ok(());
@@ -414,8 +448,8 @@ impl<'a> Carrier<'a> {
         ensures covers { IfOk result (λ found. IfSome found (λ g. (u : LduValue) → FitsGroup profile.now hypothesis.now.group u → MayBeOf profile.now attempt.now u → MayBeUnitOf profile.now g.pieces u)) }
         ensures only { IfOk result (λ found. IfSome found (λ g. (u : LduValue) → MayBeUnitOf profile.now g.pieces u → FitsGroup profile.now hypothesis.now.group u × MayBeOf profile.now attempt.now u)) }
         ensures unit { IfSome hypothesis.now.group (λ g. MayBeUnitOf profile.now g.pieces g.unit) → IfOk result (λ found. IfSome found (λ g. MayBeUnitOf profile.now g.pieces g.unit)) }
-        ensures none { result ≡ Ok None → self.new.budget.is_cut ≡ false → (u : LduValue) → FitsGroup profile.now hypothesis.now.group u → ¬ MayBeOf profile.now attempt.now u }
-        ensures cut { self.old.budget.is_cut ≡ true → self.new.budget.is_cut ≡ true }
+        ensures none { result ≡ Ok None → self.new.budget.cut ≡ None → (u : LduValue) → FitsGroup profile.now hypothesis.now.group u → ¬ MayBeOf profile.now attempt.now u }
+        ensures cut { self.new.budget.cut ≡ None → self.old.budget.cut ≡ None }
     {
         match &hypothesis.group {
             Some(group) => group.with(self.alloc, profile, attempt, &mut self.budget),
@@ -429,7 +463,7 @@ impl<'a> Carrier<'a> {
         hypothesis: &Hypothesis,
         heard: Option<usize>,
     ) -> Result<Option<usize>, AllocError>
-        ensures cut { self.new.budget.is_cut ≡ self.old.budget.is_cut }
+        ensures cut { self.new.budget.cut ≡ self.old.budget.cut }
     {
         if let Some(group) = &hypothesis.group {
             self.budget
@@ -440,7 +474,7 @@ impl<'a> Carrier<'a> {
 
     // After an attempt that was acknowledged: all hypotheses are one, that with the fewest files given up, since the block was recorded whole.
     // Beside it comes that of a source that has heard the acknowledgement. Where something was left out before, nothing is any more: the
-    // attempt says at which number the source is. `None` where the attempt is not whole, or no link data unit is found for it.
+    // attempt says at which number the source is. `None` where no link data unit is found for it.
     fn heard(
         &mut self,
         profile: &Profile,
@@ -448,16 +482,16 @@ impl<'a> Carrier<'a> {
         is_whole: bool,
         attempt: &Attempt,
     ) -> Result<Option<Vec<Hypothesis>>, AllocError>
-        requires { AreAt (number_of attempt.now.start) next.now }
+        requires at { AreAt (number_of attempt.now.start) next.now }
+        requires whole { IsWhole attempt.now }
+        ensures some { IfOk result (λ found. IfSome found (λ heard. heard.items ≡ [] → ⊥)) }
+        ensures none { result ≡ Ok None → self.new.budget.cut ≡ None → (u : LduValue) → ¬ MayBeOf profile.now attempt.now u }
         ensures covers { IfOk result (λ found. IfSome found (λ heard. GoOnFrom profile.now is_whole next.now attempt.now heard.items)) }
         ensures only { IfOk result (λ found. IfSome found (λ heard. is_whole ≡ true → (next.now ≡ [] → ⊥) → (hyps : List Hypothesis) → AreCarried profile.now hyps attempt.now next.now → AreHeard profile.now next.now heard.items)) }
     {
         let (Some(start), Some(end)) = (attempt.start, attempt.end) else {
-            return Ok(None);
+            unreachable!();
         };
-        if attempt.words.len() + 2 != usize::from(attempt.count) {
-            return Ok(None);
-        }
         let begun = Group::begin(self.alloc, profile, attempt, &mut self.budget)?;
         let Some(group) = begun else {
             return Ok(None);

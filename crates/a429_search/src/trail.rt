@@ -92,6 +92,7 @@ impl<'a> Trail<'a> {
     ) -> Result<Vec<Hypothesis>, AllocError>
         ensures covers { IfOk result (λ same. (p : Contents) (t : Assigned) → AreCovered p hypotheses.items t → AreCovered p same.items t) }
         ensures same { IfOk result (λ same. AreSame hypotheses.items same.items) }
+        ensures many { IfOk result (λ same. length same.items ≡ length hypotheses.items) }
     {
         if self.closed.len() < self.most {
             return Ok(hypotheses);

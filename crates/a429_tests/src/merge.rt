@@ -91,7 +91,7 @@ fn holds(alloc: Global, profile: &Profile, case: Case) -> Result<bool, AllocErro
     let attempts = recorded(alloc, profile, attempts)?;
     let mut budget = Budget::of_entries(0);
     let unit = unit_with(alloc, profile, count, check, attempts, &mut budget)?;
-    Ok(unit.is_some() == is_found && !budget.is_cut())
+    Ok(unit.is_some() == is_found && budget.cut_by().is_none())
 }
 
 // The place of the first case that does not hold.
@@ -238,11 +238,11 @@ const LETTERS: [&str; 16] = [
 fn are_steps_counted() -> bool {
     let mut budget = Budget::of_entries(1);
     budget.spend(1_000_000_999);
-    let has_one = !budget.is_spent();
+    let has_one = !budget.runs_out() && budget.cut_by().is_none();
     budget.spend(1);
-    budget.cut();
-    let afresh = budget.afresh();
-    has_one && budget.is_spent() && budget.is_cut() && afresh.is_spent() && !afresh.is_cut()
+    let is_out = budget.runs_out() && budget.cut_by().is_some();
+    let mut afresh = budget.afresh();
+    has_one && is_out && afresh.cut_by().is_none() && afresh.runs_out()
 }
 
 // The first step that goes otherwise.

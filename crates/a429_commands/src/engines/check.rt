@@ -158,8 +158,8 @@ fn told_by(
             Ok(Told { verdict, has_note })
         }
         Rule::Decide => {
-            let Decision { verdict, is_cut } = decided(alloc, profile, entries)?;
-            let has_note = is_cut && !is_earliest(alloc, profile, entries, &verdict)?;
+            let Decision { verdict, cut } = decided(alloc, profile, entries)?;
+            let has_note = cut.is_some() && !is_earliest(alloc, profile, entries, &verdict)?;
             Ok(Told { verdict, has_note })
         }
     }
@@ -199,10 +199,10 @@ pub(crate) fn verdict_by(
     }
 }
 
-// The verdict of `decide`, and whether its search was cut short.
+// The verdict of `decide`, and the limit by which its search was cut short, if it was.
 fn decided(alloc: Global, profile: &Profile, entries: &[Entry]) -> Result<Decision, OutOfMemory>
     ensures verdict { IfOk result (λ d. IsVerdictBy rules.Decide profile.now (items_of entries.now) d.verdict) }
-    ensures exact { IfOk result (IsExact profile.now (items_of entries.now)) }
+    ensures exact { IfOk result (λ d. IsExact profile.now (items_of entries.now) d.cut d.verdict) }
 {
     decide(alloc, profile, entries)
 }

@@ -17,7 +17,7 @@ returns-in-Ok c =
             impossible = e.impossible;
             doubted = e.doubted;
             of_check = e.of_check;
-            is_cut = c.in-Ok.decision.is_cut;
+            cut = c.in-Ok.decision.cut;
             exact = e.exact;
           }),
     )

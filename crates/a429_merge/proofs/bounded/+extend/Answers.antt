@@ -4,7 +4,7 @@ use Rattle.a429_merge.specs.Order.{lists_of, IsNext, IsAllPassed}
 use Rattle.a429_merge.specs.Bounded.{ArePassed, HasPassed, IsStep, IsBoundedStep, AreSteps, HasStepOf, IsHopeless}
 use Rattle.a429_merge.proofs.OrderFacts.{left_count, inside_given}
 use Rattle.a429_merge.proofs.BoundedFacts.{step_merged, step_fewer}
-use Rattle.a429_merge.proofs.HopelessFacts.{hopeless_steps, hopeless_far, one_more, uncut_before, is_none, one_less}
+use Rattle.a429_merge.proofs.HopelessFacts.{hopeless_steps, hopeless_far, one_more, is_none, one_less}
 use Rattle.a429_merge.proofs.bounded.+extend.Goals as goal
 
 pub extend-requires : goal.extend-requires
@@ -75,12 +75,12 @@ loop-step-preserved t c =
     one_less merged c.extend.new.path.merged.items c.pop.new.self.items s.word (vec_len c.extend.new.path.merged) c.pop.ensures.rest back
     (omega arith) in (
       popped,
-      (λ cut. c.in_ok-found.ensures.cut (c.loop-step.invariant.1 cut)),
+      (λ uncut. c.loop-step.invariant.1 (c.in_ok-found.ensures.cut uncut)),
       (λ uncut. one_more (λ s. IsHopeless p count wanted L s.passed.items (merged ++ s.word ∷ [])) items c.loop-step.step-index s
           c.loop-step-test.true c.step-item.is
           (subst (λ qs. IsHopeless p count wanted L qs (merged ++ s.word ∷ [])) c.deref.ensures.value
           (subst (IsHopeless p count wanted L c.deref.result.now) pushed (c.in_ok-found.ensures.none (ap Ok none) uncut)))
-          (c.loop-step.invariant.2 (uncut_before c.loop-step.budget.is_cut c.extend.new.budget.is_cut c.in_ok-found.ensures.cut uncut))),
+          (c.loop-step.invariant.2 (c.in_ok-found.ensures.cut uncut))),
     )
 
 pub returns-clause-none : goal.returns-clause-none

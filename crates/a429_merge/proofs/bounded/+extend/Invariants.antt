@@ -1,4 +1,4 @@
-use Rattle.std.proofs.Common.{◌≡◌, ◌<◌, ℕ, true, false, get_or, ◌++◌, ◌∷◌, []}
+use Rattle.std.proofs.Common.{◌≡◌, ◌<◌, ℕ, None, get_or, ◌++◌, ◌∷◌, []}
 use Rattle.a429_merge.specs.declared.bounded.Step.{Step}
 use Rattle.a429_merge.specs.Order.{lists_of}
 use Rattle.a429_merge.specs.Bounded.{IsHopeless}
@@ -11,7 +11,7 @@ decreases-extend l = left_count (lists_of l.search.now.lists.now) l.passed.now
 abbrev pub invariant-loop-step : goal.invariant-loop-step
 invariant-loop-step l =
     (l.path.merged.items ≡ l.fn.path.merged.items) ×
-    (l.fn.budget.is_cut ≡ true → l.budget.is_cut ≡ true) ×
-    (l.budget.is_cut ≡ false → (k : ℕ) (d : Step) → k < l.step-index
+    (l.budget.cut ≡ None → l.fn.budget.cut ≡ None) ×
+    (l.budget.cut ≡ None → (k : ℕ) (d : Step) → k < l.step-index
     → IsHopeless l.search.profile.now l.search.wanted.count l.search.wanted.check (lists_of l.search.lists.now)
     (get_or l.step-items k d).passed.items (l.fn.path.merged.items ++ (get_or l.step-items k d).word ∷ []))

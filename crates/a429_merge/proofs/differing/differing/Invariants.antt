@@ -10,5 +10,5 @@ invariant-loop-list l = record {
   only : (zs : List ℕ) → HasEach zs (lists_of l.lists) → HasEach zs (lists_of l.kept.items);
   few : length l.kept.items ≤ 16;
   most : length l.kept.items ≤ l.list-index;
-  cut : l.budget.is_cut ≡ l.fn.budget.is_cut;
+  cut : l.budget.cut ≡ l.fn.budget.cut;
 }

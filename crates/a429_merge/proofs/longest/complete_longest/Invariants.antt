@@ -7,5 +7,5 @@ abbrev pub invariant-loop-i : goal.invariant-loop-i
 invariant-loop-i l = record {
   none : (k : ℕ) → k < l.i → HasEach (words_at (lists_of l.lists) k) (lists_of l.lists)
       → ¬ CanBeCompleted l.profile l.wanted.count l.wanted.check (words_at (lists_of l.lists) k);
-  cut : l.budget.is_cut ≡ l.fn.budget.is_cut;
+  cut : l.budget.cut ≡ l.fn.budget.cut;
 }

@@ -6,5 +6,5 @@ use Rattle.a429_merge.proofs.longest.has_each.Given as goal
 abbrev pub invariant-loop-i : goal.invariant-loop-i
 invariant-loop-i l = record {
   each : (k : ℕ) → k < l.i → IsSubsequenceOf (words_at (lists_of l.lists) k) l.words;
-  cut : l.budget.is_cut ≡ l.fn.budget.is_cut;
+  cut : l.budget.cut ≡ l.fn.budget.cut;
 }

@@ -7,5 +7,5 @@ abbrev pub invariant-loop-list : goal.invariant-loop-list
 invariant-loop-list l = record {
   each : (k : ℕ) → k < l.list-index → IsSubsequenceOf (words_at (lists_of l.lists) k) l.merged.items;
   few : length l.merged.items ≤ sum_by (λ list. length list.items) (take l.list-index l.lists);
-  cut : l.budget.is_cut ≡ l.fn.budget.is_cut;
+  cut : l.budget.cut ≡ l.fn.budget.cut;
 }

@@ -5,5 +5,5 @@ use Rattle.a429_merge.proofs.order.is_free.Given as goal
 abbrev pub invariant-loop-i : goal.invariant-loop-i
 invariant-loop-i l = record {
   none : (k : ℕ) → k < l.i → ¬ IsLater (words_at (lists_of l.lists) k) (slice_index l.passed k) l.word;
-  cut : l.budget.is_cut ≡ l.fn.budget.is_cut;
+  cut : l.budget.cut ≡ l.fn.budget.cut;
 }

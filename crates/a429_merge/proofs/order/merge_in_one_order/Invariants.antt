@@ -6,7 +6,7 @@ use Rattle.a429_merge.proofs.order.merge_in_one_order.Given as goal
 abbrev pub invariant-loop-word : goal.invariant-loop-word
 invariant-loop-word l = record {
   merging : Merging (lists_of l.lists) l.passed.items l.merged.items;
-  cut : l.budget.is_cut ≡ l.fn.budget.is_cut;
+  cut : l.budget.cut ≡ l.fn.budget.cut;
 }
 
 abbrev pub decreases-loop-word : goal.decreases-loop-word

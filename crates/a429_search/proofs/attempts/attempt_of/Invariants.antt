@@ -5,5 +5,8 @@ use Rattle.a429_search.proofs.RecordedFacts.{closed}
 use Rattle.a429_search.proofs.attempts.attempt_of.Given as goal
 
 abbrev pub invariant-loop-at : goal.invariant-loop-at
-invariant-loop-at l = (closed l.decoded.profile (take l.at l.decoded.items) ≡ attempts l.decoded.profile (take l.from l.decoded.items))
-    × IsRecorded l.decoded.profile.codes (latest l.decoded.profile (take l.at l.decoded.items)) l.attempt
+invariant-loop-at l = record {
+  done : closed l.decoded.profile (take l.at l.decoded.items) ≡ attempts l.decoded.profile (take l.from l.decoded.items);
+  is : IsRecorded l.decoded.profile.codes (latest l.decoded.profile (take l.at l.decoded.items)) l.attempt;
+  at : l.attempt.at ≡ l.from;
+}

@@ -18,7 +18,7 @@ pub returns-in-NotReplayed : goal.returns-in-NotReplayed
 returns-in-NotReplayed c = λ is.
     let p = c.args.profile.now in
     let items = items_of c.args.entries.now in
-    let cut = c.in_ok-decide.field-0.is_cut in
+    let cut = c.in_ok-decide.field-0.cut in
     let at = c.in-Unexplained in
-    let exact = subst (λ (v : Verdict). IsExactly p items cut v) at.is c.in_ok-decide.ensures.exact in
+    let exact = subst (λ (v : Verdict). IsExactly p items cut v) at.is c.in_ok-decide.ensures.exact.verdict in
     subst (λ (d : Doubt). IsExactly p items cut (Unexplained at.entry d)) c.in-NotReplayed.is exact

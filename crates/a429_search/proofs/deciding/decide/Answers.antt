@@ -5,13 +5,13 @@ use Rattle.a429_link.specs.Run.{BeginsARun}
 use Rattle.a429_cert.specs.Explained.{items_of, seen_of}
 use Rattle.a429_cert.proofs.ExplainedFacts.{in_some_run}
 use Rattle.a429_explain.specs.declared.verdict.Verdict.{Verdict}
-use Rattle.a429_explain.specs.Verdict.{IsDoubted, IsFirst, IsImpossible, IsSoundVerdict}
+use Rattle.a429_explain.specs.Verdict.{IsFirst, IsImpossible, IsSoundVerdict}
 use Rattle.a429_explain.specs.Walk.{AreAllowedUpTo}
 use Rattle.a429_contradiction.specs.declared.contradiction.Contradiction.{Contradiction}
 use Rattle.a429_search.specs.declared.deciding.Written.{Written}
 use Rattle.a429_contradiction.specs.Contradiction.{ContradictsAt, HasNoContradiction}
 use Rattle.a429_search.specs.Deciding.{IsFoundBefore, IsNoRun, IsWritten}
-use Rattle.a429_search.proofs.DecidingFacts.{allowed_first, at_least, begins_within, doubt_of_check, ended_inside, explained_none, first_by, found_first, first_of_refused, impossible_by, no_reason_at_all, none_first}
+use Rattle.a429_search.proofs.DecidingFacts.{allowed_first, at_least, begins_within, doubt_of_check, explained_none, first_by, found_first, first_of_refused, impossible_by, no_reason_at_all, none_first, not_cut, request_inside}
 use Rattle.a429_search.proofs.deciding.decide.Goals as goal
 
 pub look_before-requires : goal.look_before-requires
@@ -43,13 +43,20 @@ returns-in-Some-clause-exact c =
     let is = subst (λ (v : Verdict). IsImpossible p items v) c.in-Impossible.is c.in_ok-certificate.ensures.impossible in
     let none =
     subst (λ (o : Option Contradiction).
-    IsFoundBefore p (items_of (take c.in-Impossible.entry es)) c.in_ok-found-in-Impossible.field-0.is_cut o) c.in-Some.is
+    IsFoundBefore p (items_of (take c.in-Impossible.entry es)) c.in_ok-found-in-Impossible.field-0.cut o) c.in-Some.is
     c.in_ok-found-in-Impossible.ensures in
     let f =
     found_first p items n found (omega (arith, is.0))
     (subst (λ (xs : List Seen). IsNoRun p xs found) (sym (take-map seen_of n es)) none.0) in
     let within = f.within in
-    (f.inside, f.no_run, λ uncut. begins_within p es n found.entry (omega (arith, within)) (none.1 uncut))
+    record {
+      verdict = (
+        f.inside,
+        f.no_run,
+        λ uncut. begins_within p es n found.entry (omega (arith, within)) (none.1 (not_cut _ _ c.limit_of-cut.ensures.some uncut)),
+      );
+      reached = c.limit_of-cut.ensures.reached;
+    }
 
 pub returns-in-Some-clause-impossible : goal.returns-in-Some-clause-impossible
 returns-in-Some-clause-impossible c =
@@ -62,7 +69,7 @@ returns-in-Some-clause-impossible c =
     let is = subst (λ (v : Verdict). IsImpossible p items v) c.in-Impossible.is c.in_ok-certificate.ensures.impossible in
     let none =
     subst (λ (o : Option Contradiction).
-    IsFoundBefore p (items_of (take c.in-Impossible.entry es)) c.in_ok-found-in-Impossible.field-0.is_cut o) c.in-Some.is
+    IsFoundBefore p (items_of (take c.in-Impossible.entry es)) c.in_ok-found-in-Impossible.field-0.cut o) c.in-Some.is
     c.in_ok-found-in-Impossible.ensures in
     impossible_by p items n found refused.before
     (found_first p items n found (omega (arith, is.0))
@@ -79,7 +86,7 @@ returns-in-Some-clause-first c =
     let is = subst (λ (v : Verdict). IsImpossible p items v) c.in-Impossible.is c.in_ok-certificate.ensures.impossible in
     let none =
     subst (λ (o : Option Contradiction).
-    IsFoundBefore p (items_of (take c.in-Impossible.entry es)) c.in_ok-found-in-Impossible.field-0.is_cut o) c.in-Some.is
+    IsFoundBefore p (items_of (take c.in-Impossible.entry es)) c.in_ok-found-in-Impossible.field-0.cut o) c.in-Some.is
     c.in_ok-found-in-Impossible.ensures in
     first_by p items n found refused.before
     (found_first p items n found (omega (arith, is.0))
@@ -94,9 +101,17 @@ returns-in-None-clause-exact c =
     let is = subst (λ (v : Verdict). IsImpossible p (items_of es) v) c.in-Impossible.is c.in_ok-certificate.ensures.impossible in
     let none =
     subst (λ (o : Option Contradiction).
-    IsFoundBefore p (items_of (take c.in-Impossible.entry es)) c.in_ok-found-in-Impossible.field-0.is_cut o) c.in-None.is
+    IsFoundBefore p (items_of (take c.in-Impossible.entry es)) c.in_ok-found-in-Impossible.field-0.cut o) c.in-None.is
     c.in_ok-found-in-Impossible.ensures in
-    (is.0, is.2, λ uncut. subst (BeginsARun p) (sym (take-map seen_of c.in-Impossible.entry es)) (none.1 uncut))
+    record {
+      verdict = (
+        is.0,
+        is.2,
+        λ uncut. subst (BeginsARun p) (sym (take-map seen_of c.in-Impossible.entry es))
+            (none.1 (not_cut _ _ c.limit_of-cut.ensures.some uncut)),
+      );
+      reached = c.limit_of-cut.ensures.reached;
+    }
 
 pub returns-in-None-clause-impossible : goal.returns-in-None-clause-impossible
 returns-in-None-clause-impossible c =
@@ -123,13 +138,23 @@ returns-in-None-clause-first c =
     let is = subst (λ (v : Verdict). IsImpossible p items v) c.in-Impossible.is c.in_ok-certificate.ensures.impossible in
     let none =
     subst (λ (o : Option Contradiction).
-    IsFoundBefore p (items_of (take c.in-Impossible.entry es)) c.in_ok-found-in-Impossible.field-0.is_cut o) c.in-None.is
+    IsFoundBefore p (items_of (take c.in-Impossible.entry es)) c.in_ok-found-in-Impossible.field-0.cut o) c.in-None.is
     c.in_ok-found-in-Impossible.ensures in
     at_least p items n refused.before
     (none_first p items n (omega (arith, is.0))
     (subst (λ (xs : List Seen). HasNoContradiction p xs (length xs)) (sym (take-map seen_of n es)) none.0))
 
 -- ---- `check` has a doubt
+
+pub returns-in-NoRun-clause-exact : goal.returns-in-NoRun-clause-exact
+returns-in-NoRun-clause-exact c =
+    let p = c.args.profile.now in
+    let items = items_of c.args.entries.now in
+    let none = subst (λ (w : Written). IsWritten p items w) c.in-NoRun.is c.in_ok-found-in-Unexplained.ensures in
+    record {
+      verdict = (none.0.0.inside, none.0.0.no_run, none.0.1);
+      reached = none.1;
+    }
 
 pub returns-in-Run-clause-some_run : goal.returns-in-Run-clause-some_run
 returns-in-Run-clause-some_run c =
@@ -173,6 +198,5 @@ pub returns-in-CutShort-clause-doubted : goal.returns-in-CutShort-clause-doubted
 returns-in-CutShort-clause-doubted c =
     let p = c.args.profile.now in
     let items = items_of c.args.entries.now in
-    let doubt = subst (λ (v : Verdict). IsDoubted p items v) c.in-Unexplained.is c.in_ok-certificate.ensures.doubted in
     let cut = subst (λ (w : Written). IsWritten p items w) c.in-CutShort.is c.in_ok-found-in-Unexplained.ensures in
-    ended_inside p.codes items c.in-CutShort.at c.in-Unexplained.entry _ cut.0 doubt c.unwrap_or-entry.ensures
+    request_inside p items c.in-CutShort.at.entry cut.0

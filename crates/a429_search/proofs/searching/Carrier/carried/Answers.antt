@@ -1,6 +1,6 @@
 use Rattle.std.proofs.Common.{refl, arith}
 use Rattle.std.proofs.lemmas.Option.{slice_get_read}
-use Rattle.a429_search.proofs.SearchingFacts.{all_carried, covered_kept, one_carried, uncut}
+use Rattle.a429_search.proofs.SearchingFacts.{all_carried, covered_kept, one_carried}
 use Rattle.a429_search.proofs.SoundFacts.{add_carried}
 use Rattle.a429_search.proofs.searching.Carrier.carried.Goals as goal
 
@@ -15,8 +15,7 @@ loop-place-preserved c =
       λ whole t sound may. one_carried p hyps next t c.loop-place.place x
           is
           (λ k h l is covers. covered_kept p old next t c.in_ok-carry_on.ensures.kept
-          (c.loop-place.invariant.0 (uncut c.loop-place.self.budget.is_cut c.carry_on.new.self.budget.is_cut c.in_ok-carry_on.ensures.cut
-          whole) t sound may k h l is covers))
+          (c.loop-place.invariant.0 (c.in_ok-carry_on.ensures.cut whole) t sound may k h l is covers))
           (λ covers. c.in_ok-carry_on.ensures.covers whole t sound may covers),
       c.in_ok-carry_on.ensures.at c.loop-place.invariant.1,
       λ real. add_carried p hyps c.args.attempt.now c.loop-place.place x old next is (c.loop-place.invariant.2 real)

@@ -1,4 +1,4 @@
-use Rattle.a429_search.proofs.SearchingFacts.{carried_on, covered_kept, named, then_too, uncut, ways_cover}
+use Rattle.a429_search.proofs.SearchingFacts.{carried_on, covered_kept, named, then_too, ways_cover}
 use Rattle.a429_search.specs.Frontier.{AreCovered, IsAmong}
 use Rattle.a429_search.specs.Recorded.{number_of}
 use Rattle.a429_search.proofs.SoundFacts.{add_both, ways_only}
@@ -29,8 +29,7 @@ returns-clause-covers c = λ whole t sound may covers.
     (AreCovered p c.begin.new.next.items t) all c.is_some-has_group.ensures sound (named p a t may) covers
     (λ fits. then_too c.ways-ways.result.join (λ j. IsAmong p.codes.first_ldu j t) (AreCovered p c.join.new.next.items t)
     (AreCovered p c.begin.new.next.items t) (covered_kept p c.join.new.next.items c.begin.new.next.items t c.in_ok-begin.ensures.kept)
-    (c.in_ok-joins.ensures.covers (uncut c.join.new.self.budget.is_cut c.begin.new.self.budget.is_cut c.in_ok-begin.ensures.cut whole) t
-    may.unit fits))
+    (c.in_ok-joins.ensures.covers (c.in_ok-begin.ensures.cut whole) t may.unit fits))
     (λ b. c.in_ok-begin.ensures.covers whole t may.unit b)
 
 pub returns-clause-kept : goal.returns-clause-kept

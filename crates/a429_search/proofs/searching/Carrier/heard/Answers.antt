@@ -1,4 +1,4 @@
-use Rattle.std.proofs.Common.{◌≡◌, ◌++◌, ◌∷◌, [], List, None, IfSome, Option, ap, inl, inr, refl, subst, ◌∙◌, arith}
+use Rattle.std.proofs.Common.{◌≡◌, ◌++◌, ◌∷◌, [], List, None, IfSome, Option, ap, inl, inr, refl, subst, ◌∙◌}
 use Rattle.a429_ldu.specs.Ldu.{LduValue}
 use Rattle.a429_link.specs.Number.{next_number}
 use Rattle.a429_search.specs.declared.groups.Group.{Group}
@@ -25,7 +25,7 @@ returns-clause-covers c =
     let both : c.push-2.new.self.items ≡ one ∷ (heard ∷ []) =
     c.in_ok-push-2.ensures.items ∙ ap (λ (l : List Hypothesis). l ++ heard ∷ []) first in
     heard_goes_on p c.args.next.now c.push-2.new.self.items c.args.is_whole a one heard start end c.next-known.result c.in-Some-Some.is-0
-    c.in-Some-Some.is-1 c.requires
+    c.in-Some-Some.is-1 c.requires.at
     (record {
       at = c.merged-one.ensures.at;
       group = λ u may. fits_group p one.group c.in-Some.group u c.merged-one.ensures.group (begun u may);
@@ -55,7 +55,7 @@ returns-clause-only c = λ whole some hyps carried.
       | inr (k, h, is, gave) ↦
           let g = one_group p one.group c.in-Some.group c.merged-one.ensures.group in
           are_heard p a c.args.next.now hyps carried start end c.in-Some-Some.is-0 c.in-Some-Some.is-1
-          (omega arith) c.requires k h is one g.0 g.1
+          c.requires.whole.words c.requires.at k h is one g.0 g.1
           c.merged-one.ensures.at gave (λ u may. only u (g.2 u may)) (g.3 unit) heard c.next-known.result refl c.heard.ensures
           (c.next-known.ensures.number ∙ ap (next_number p.codes start.number) c.is_final.ensures) c.push-2.new.self.items both
     ]

@@ -1,13 +1,15 @@
-use Rattle.std.proofs.Common.{◌≡◌, ◌<◌, ◌≤◌, true}
+use Rattle.std.proofs.Common.{◌≡◌, ◌-◌, ◌<◌, ◌≤◌, None}
 use Rattle.a429_search.specs.Frontier.{FitsSome, IsRefused}
 use Rattle.a429_search.proofs.searching.Carrier.misfit.Given as goal
 
-abbrev pub invariant-loop : goal.invariant-loop
-invariant-loop l = record {
+abbrev pub invariant-halving : goal.invariant-halving
+invariant-halving l = record {
   low : l.from ≤ l.fits;
-  order : l.fits ≤ l.refused;
-  some : l.from < l.refused;
+  order : l.fits < l.refused;
   high : l.refused ≤ l.to;
-  known : l.is_known ≡ true → FitsSome l.decoded.profile l.decoded.items l.hypotheses l.from l.fits;
+  known : l.cut ≡ None → FitsSome l.decoded.profile l.decoded.items l.hypotheses l.from l.fits;
   refused : IsRefused l.decoded.profile l.decoded.items l.hypotheses l.from l.refused;
 }
+
+abbrev pub decreases-halving : goal.decreases-halving
+decreases-halving l = l.refused - l.fits

@@ -1,4 +1,4 @@
-use Rattle.std.proofs.Common.{◌≡◌, ◌+◌, IfOk, List, subst, sym, true}
+use Rattle.std.proofs.Common.{◌≡◌, ◌+◌, IfOk, List, None, subst, sym}
 use Rattle.a429_search.specs.declared.searching.Hypothesis.{Hypothesis}
 use Rattle.a429_search.specs.Frontier.{FitsSome, IsRefused}
 use Rattle.a429_search.proofs.searching.Search.misfit.Goals as goal
@@ -17,5 +17,5 @@ returns-clause-refused c =
 pub returns-clause-fits : goal.returns-clause-fits
 returns-clause-fits c =
     subst (λ (l : List Hypothesis). IfOk c.misfit.result
-    (λ m. m.fits_before ≡ true → FitsSome c.args.decoded.now.profile c.args.decoded.now.items l c.args.from m.entry))
+    (λ m. m.cut ≡ None → FitsSome c.args.decoded.now.profile c.args.decoded.now.items l c.args.from m.entry))
     c.deref.ensures.value c.misfit.ensures.fits

@@ -1,7 +1,7 @@
-use Rattle.std.proofs.Common.{◌++◌, List, refl, subst, sym}
+use Rattle.std.proofs.Common.{◌≡◌, ◌++◌, List, length, refl, subst, sym}
 use Rattle.a429_search.specs.declared.searching.Hypothesis.{Hypothesis}
 use Rattle.a429_search.specs.Frontier.{AreCovered, AreSame}
-use Rattle.a429_search.proofs.SearchingFacts.{moved_one}
+use Rattle.a429_search.proofs.SearchingFacts.{moved_many, moved_one}
 use Rattle.a429_search.proofs.SoundFacts.{moved_same, same_first}
 use Rattle.a429_search.proofs.trail.Trail.leave_out.Goals as goal
 
@@ -15,6 +15,10 @@ loop-hypothesis-preserved c =
           subst (λ (l : List Hypothesis). AreCovered p (l ++ rest) t) (sym c.in_ok-push.ensures.items)
           (moved_one p t moved rest c.in-Some.hypothesis _ refl refl
           (subst (λ (l : List Hypothesis). AreCovered p (moved ++ l) t) c.in-Some.ensures.steps.0 (old.covers p t covered)));
+      many =
+          subst (λ (l : List Hypothesis). length (l ++ rest) ≡ length c.args.hypotheses.items) (sym c.in_ok-push.ensures.items)
+          (moved_many c.args.hypotheses.items moved rest c.in-Some.hypothesis _
+          (subst (λ (l : List Hypothesis). length (moved ++ l) ≡ length c.args.hypotheses.items) c.in-Some.ensures.steps.0 old.many));
       same =
           subst (λ (l : List Hypothesis). AreSame c.args.hypotheses.items (l ++ rest)) (sym c.in_ok-push.ensures.items)
           (moved_same c.args.hypotheses.items moved rest c.in-Some.hypothesis _ refl refl
