@@ -100,7 +100,7 @@ step_on p good (Answered i) s k h c e =
 step_on p good (FreeSeen i) s k h c e = inl (e ∙ sym (free_sees p good i.bus i.word k h))
 step_on p good GiveUp s k h c e = inl e
 
-none_there : (ws : List ℕ) → ws ≡ [] → IsNonEmpty ws → ⊥
+pub none_there : (ws : List ℕ) → ws ≡ [] → IsNonEmpty ws → ⊥
 none_there [] e n = n
 none_there (w ∷ ws) e n = cc e
 
@@ -122,7 +122,7 @@ lost_still number (Some u) (Sending n) h i = absurd i
 lost_still number (Some u) Awaiting h i = tt
 lost_still number (Some u) Waiting h i = tt
 
-quiet_owes : (kp : SinkPhase) → kp ≡ Quiet → Owes kp → ⊥
+pub quiet_owes : (kp : SinkPhase) → kp ≡ Quiet → Owes kp → ⊥
 quiet_owes kp e o = subst Owes e o
 
 -- a step after the sink has kept silent
@@ -162,7 +162,7 @@ pub step_alike : (p : Contents)
 step_alike p good a s k h c (inl e) = step_on p good a s k h c e
 step_alike p good a s k h c (inr r) = step_off p good a s k h c r
 
-sink_from_label : (p : Contents) (l : Option Seen) (items : List Seen) (k : Sink)
+pub sink_from_label : (p : Contents) (l : Option Seen) (items : List Seen) (k : Sink)
     → sink_after p items (sees p l k) ≡ sink_after p (with_label l items) k
 sink_from_label p None items k = refl
 sink_from_label p (Some i) items k = refl

@@ -10,16 +10,16 @@ use Rattle.a429_link.specs.Observer.{HasGrant}
 use Rattle.a429_link.specs.declared.why.Why.{Why}
 use Rattle.a429_link.specs.Why.{are_half, block_in, why_bad}
 
-mapped_some : (o : Option (List ℕ)) (n : ℕ) → is_some (option_map (λ bytes. n ∷ bytes) o) ≡ is_some o
+pub mapped_some : (o : Option (List ℕ)) (n : ℕ) → is_some (option_map (λ bytes. n ∷ bytes) o) ≡ is_some o
 mapped_some None n = refl
 mapped_some (Some bs) n = refl
 
-mapped_some_too : (o : Option (List ℕ)) (n : ℕ) → is_some (if_some (option_map (λ bytes. n ∷ bytes) o)) ≡ is_some o
+pub mapped_some_too : (o : Option (List ℕ)) (n : ℕ) → is_some (if_some (option_map (λ bytes. n ∷ bytes) o)) ≡ is_some o
 mapped_some_too None n = refl
 mapped_some_too (Some bs) n = refl
 
 -- semi-octets are those of bytes where they are even in number
-pairs_even : (ss : List ℕ) → is_some (paired ss) ≡ not (eqb (length ss % 2) 1)
+pub pairs_even : (ss : List ℕ) → is_some (paired ss) ≡ not (eqb (length ss % 2) 1)
 pairs_even [] = refl
 pairs_even (l ∷ []) = refl
 pairs_even (l ∷ h ∷ ss) =
