@@ -8,7 +8,8 @@ use Rattle.std.proofs.lemmas.Nat.Bits.{bit_at_xor}
 use Rattle.a429_profile.specs.declared.codes.Check.{Check}
 use Rattle.a429_ldu.specs.CheckWord.{fed_bits, fed, register_after, check_of, check_by_register}
 use Rattle.a429_ldu.proofs.CheckWordFacts.{check-by-register}
-use Rattle.a429_merge.proofs.XorFacts.{cancel, by_tests}
+use Rattle.a429_ldu.proofs.CheckWordDown.{by_tests}
+use Rattle.a429_merge.proofs.XorFacts.{cancel}
 
 -- four lists of one length, at each place of which the first two have the same sum as the others
 abbrev pub AreSums : List ℕ → List ℕ → List ℕ → List ℕ → Type 0

@@ -6,9 +6,10 @@ use Rattle.std.proofs.lemmas.Nat.{xor_lt, xor_shr, pow_below, pow_pos}
 use Rattle.std.proofs.lemmas.Nat.Bits.{bit_at_xor, bit_at-zero, bit_at-lt, bit_at-trailing_zeros}
 use Rattle.std.proofs.lemmas.List.Elements.{All-head, All-tail, All-push, All-more, All-weaker}
 use Rattle.std.proofs.lemmas.Grind.{fold-append}
+use Rattle.a429_ldu.proofs.CheckWordDown.{by_tests}
 use Rattle.a429_merge.specs.declared.choice.Sum.{Sum}
 use Rattle.a429_merge.specs.Choice.{xor_of, reduced_by, IsBasis}
-use Rattle.a429_merge.proofs.XorFacts.{cancel, shuffle, same_from_zero, by_tests}
+use Rattle.a429_merge.proofs.XorFacts.{cancel, shuffle, same_from_zero}
 
 -- ---- the columns of an exclusive or
 

@@ -7,6 +7,7 @@ use Rattle.a429_link.specs.declared.number.UnitNumber.{UnitNumber}
 use Rattle.a429_link.specs.Assignment.{Assigned, IsSound, LeavesFor}
 use Rattle.a429_link.specs.Number.{next_number}
 use Rattle.a429_link.specs.Run.{IsSubsequenceOf}
+use Rattle.a429_link.proofs.NumberFacts.{next_byte}
 use Rattle.a429_link.proofs.Subsequence.{sub_length}
 use Rattle.a429_search.specs.declared.attempts.Attempt.{Attempt}
 use Rattle.a429_search.specs.declared.attempts.StartWord.{StartWord}
@@ -77,10 +78,6 @@ says_of p s (Some g) is real = says_some p s g real
 at_start : (o : Option StartWord) (s : StartWord) (hyps : List Hypothesis) (k : ℕ) (h : Hypothesis)
     → o ≡ Some s → AreAt (number_of o) hyps → slice_get hyps k ≡ Some h → IsAt s.number h.standing
 at_start o s hyps k h is at there = (subst (λ (q : Option StartWord). AreAt (number_of q) hyps) is at) k h there
-
-next_file : (c : Codes) (n : UnitNumber) (b : Bool) → n.file ≤ 255 → (next_number c n b).file ≤ 255
-next_file c n true l = omega arith
-next_file c n false l = l
 
 module _ (p : Contents) (a : Attempt) (next hyps : List Hypothesis) (carried : AreCarried p hyps a next) (start : StartWord) (end : EndWord)
     (starts : a.start ≡ Some start) (ends : a.end ≡ Some end) (all : length a.words.items + 2 ≡ a.count)
@@ -181,7 +178,7 @@ module _ (p : Contents) (a : Attempt) (next hyps : List Hypothesis) (carried : A
             file =
                 subst (λ (o : Option UnitNumber). IfSome o (λ n. n.file ≤ 255)) (sym here.known)
                 (subst (λ (n : UnitNumber). n.file ≤ 255) (sym known_is)
-                (next_file p.codes start.number (is_final p.codes end.flags) file_h));
+                (next_byte p.codes start.number (is_final p.codes end.flags) file_h));
             loaded = λ e z. absurd (cc (e, ap is_some none));
             few = omega (arith, here.give_ups, here.since);
           };

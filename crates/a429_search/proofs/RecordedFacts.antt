@@ -1,5 +1,6 @@
 -- An attempt by its words, and the attempts of a recording one after the other.
 use Rattle.std.proofs.Common.{◌≡◌, ℕ, zero, suc, ◌+◌, ◌<◌, ◌≤◌, false, List, [], ◌∷◌, ◌++◌, length, take, Option, Some, None, IfSome, is_some, slice_get, refl, sym, ap, ◌∙◌, subst, inl, inr, append-nil, arith}
+use Rattle.a429_word.proofs.ListFacts.{some_within}
 use Rattle.a429_word.specs.declared.bus.Bus.{Bus}
 use Rattle.a429_word.specs.declared.bus.Bus.TheVariants as bus
 use Rattle.a429_profile.specs.Profile.{Contents, IsProfile}
@@ -292,11 +293,6 @@ latest_asked p items n i count at some =
 
 -- ---- by what is known of a word
 
-pub there : {X : Type 0} (xs : List X) (n : ℕ) → n < length xs → (x : X) × (slice_get xs n ≡ Some x)
-there [] n l = absurd (omega arith)
-there (x ∷ xs) zero l = (x, refl)
-there (x ∷ xs) (suc n) l = there xs n (omega arith)
-
 no_value : (o : Option ℕ) → is_some o ≡ false → o ≡ None
 no_value None e = refl
 no_value (Some n) e = absurd (cc e)
@@ -312,7 +308,7 @@ asked_is c items n i o at is = sym (is ∙ ap (asked_at c) at)
 pub closed_on : (p : Contents) (items : List Seen) (n : ℕ) (o : Option ℕ) → n < length items → o ≡ asked_at p.codes (slice_get items n)
     → is_some o ≡ false → closed p (take (n + 1) items) ≡ closed p (take n items)
 closed_on p items n o l is none =
-    let found = there items n l in
+    let found = some_within items n l in
     let one : n + 1 ≡ suc n = omega arith in
     ap (λ (k : ℕ). closed p (take k items)) one
     ∙ closed_same p items n found.0 found.1 (asked_is p.codes items n found.0 o found.1 is ∙ no_value o none)
@@ -321,7 +317,7 @@ pub asked_first : (p : Contents) (items : List Seen) (n count : ℕ) (b : Attemp
     → n < length items → Some count ≡ asked_at p.codes (slice_get items n) → IsRecorded p.codes (fresh count) b
     → (closed p (take (n + 1) items) ≡ attempts p (take n items)) × IsRecorded p.codes (latest p (take (n + 1) items)) b
 asked_first p items n count b l is h =
-    let found = there items n l in
+    let found = some_within items n l in
     let one : n + 1 ≡ suc n = omega arith in
     let asked = asked_is p.codes items n found.0 (Some count) found.1 is in (
       ap (λ (k : ℕ). closed p (take k items)) one ∙ closed_more p items n found.0 count found.1 asked,

@@ -3,6 +3,7 @@ use Rattle.std.proofs.Common.{◌≡◌, ◌⊎◌, ℕ, zero, suc, ◌+◌, ◌
 use Rattle.std.specs.Option.{option_or}
 use Rattle.std.proofs.lemmas.Bool.{cases_order}
 use Rattle.std.proofs.lemmas.Option.{slice_get_read, slice_get_within}
+use Rattle.a429_word.proofs.ListFacts.{some_within}
 use Rattle.a429_profile.specs.Profile.{Contents, IsProfile}
 use Rattle.a429_profile.specs.declared.codes.Codes.{Codes}
 use Rattle.a429_ldu.specs.Ldu.{LduValue, is_final}
@@ -27,7 +28,7 @@ use Rattle.a429_contradiction.specs.Contradiction.{HasNoRun}
 use Rattle.a429_search.specs.Recorded.{IsRequestAt, IsAttemptFrom, MayBeOf, MayBeTo, number_of}
 use Rattle.a429_search.specs.Standing.{Begins, IsAt, IsHeard, IsNamed, LeaveNothingOut, MayStand, Stands, StandsLater, all_give_ups}
 use Rattle.a429_search.proofs.FrontierFacts.{CoverNext, comes_next, cover_more, in_range, not_assignable}
-use Rattle.a429_search.proofs.RecordedFacts.{may_be_to, there}
+use Rattle.a429_search.proofs.RecordedFacts.{may_be_to}
 use Rattle.a429_contradiction.proofs.RivalFacts.{get_push}
 use Rattle.a429_search.proofs.StandingFacts.{at_stands, fewer_later, fewer_stands}
 
@@ -136,7 +137,7 @@ pub fewest_of : (hyps : List Hypothesis) (best n : ℕ) → best < length hyps �
     → all_give_ups b.standing ≤ all_give_ups h.standing)
     → HasFewest hyps best
 fewest_of hyps best n l all few =
-    let found = there hyps best l in
+    let found = some_within hyps best l in
     (found.0, found.1, λ k h is. few found.0 found.1 k h (omega (arith, all, slice_get_within hyps k h is)) is)
 
 pub fewest_is : (hyps : List Hypothesis) (place : ℕ) (x : Hypothesis) → HasFewest hyps place → x ≡ get_or hyps place x

@@ -1,6 +1,7 @@
 -- That hypotheses make nothing up: what they say of the last attempt is the end of an assignment of all.
 use Rattle.std.proofs.Common.{◌≡◌, ◌↔◌, ◌⊎◌, ℕ, zero, suc, ◌+◌, ◌≤◌, Bool, true, false, List, [], ◌∷◌, ◌++◌, length, take, Option, Some, None, IfSome, is_some, slice_get, refl, sym, ap, ◌∙◌, subst, inl, inr, arith}
 use Rattle.std.proofs.lemmas.List.{take_all}
+use Rattle.a429_word.proofs.ListFacts.{some_within}
 use Rattle.a429_profile.specs.Profile.{Contents, IsProfile}
 use Rattle.a429_profile.specs.declared.codes.Codes.{Codes}
 use Rattle.a429_ldu.specs.Ldu.{LduValue}
@@ -11,6 +12,8 @@ use Rattle.a429_link.specs.Attempt.{Attempt, attempts, latest}
 use Rattle.a429_link.specs.Run.{BeginsARun}
 use Rattle.a429_link.specs.Observer.{Allows, AllowsNext, AreAllowed, Observer, at_first, observed, sees}
 use Rattle.a429_link.proofs.Contradictions.{next_item}
+use Rattle.a429_link.proofs.ObserverMore.{allowed_push}
+use Rattle.a429_link.proofs.RunAssigned.{next_comes}
 use Rattle.a429_explain.specs.Walk.{AreAllowedUpTo}
 use Rattle.a429_search.specs.declared.attempts.Attempt as kept
 use Rattle.a429_search.specs.declared.attempts.StartWord.{StartWord}
@@ -22,26 +25,20 @@ use Rattle.a429_merge.specs.Block.{MayBeUnitOf}
 use Rattle.a429_search.specs.Frontier.{AddCarried, AreCarried, AreHeard, AreSame, CanSend, FitsGroup, FitsSome, IsCarriedFrom, IsHeardBy, IsReal, IsStart, LeadsBy, SomeSays, TakesOn}
 use Rattle.a429_search.specs.Recorded.{IsAttemptFrom, IsWholeIfHeard, MayBeOf, MayBeTo, number_of}
 use Rattle.a429_search.specs.Standing.{CanBe, CanComeTo, CanStand, IsInRange, IsNamed, IsRegular, MakeNothingUp, all_give_ups, past}
-use Rattle.a429_search.proofs.FrontierFacts.{CanReach}
-use Rattle.a429_search.proofs.RecordedFacts.{there}
+use Rattle.a429_search.proofs.FrontierFacts.{CanReach, in_range}
 use Rattle.a429_contradiction.proofs.RivalFacts.{get_push}
 use Rattle.a429_search.proofs.ShapeFacts.{heard_whole, is_of}
 use Rattle.a429_search.proofs.StandingFacts.{can_first, can_now, range_now}
 
 -- ---- the first words of those that are allowed
 
-allowed_push : (p : Contents) (o : Observer) (xs : List Seen) (i : Seen)
-    → AreAllowed p o xs → Allows p (observed p xs o) i → AreAllowed p o (xs ++ i ∷ [])
-allowed_push p o [] i h a = (a, tt)
-allowed_push p o (x ∷ xs) i h a = (h.0, allowed_push p (sees p x o) xs i h.1 a)
-
 pub allowed_first : (p : Contents) (items : List Seen) (n : ℕ)
     → n ≤ length items → AreAllowedUpTo p items n → AreAllowed p at_first (take n items)
 allowed_first p items zero l h = tt
 allowed_first p items (suc n) l h =
-    let i = there items n l in
+    let i = some_within items n l in
     subst (AreAllowed p at_first) (sym (next_item n i.0 items i.1))
-    (allowed_push p at_first (take n items) i.0 (allowed_first p items n (omega (arith, l)) (λ k less. h k (omega (arith, less))))
+    (allowed_push p (take n items) i.0 at_first (allowed_first p items n (omega (arith, l)) (λ k less. h k (omega (arith, less))))
     (subst (AllowsNext p (observed p (take n items) at_first)) i.1 (h n (omega arith))))
 
 -- ---- along the attempts
@@ -101,15 +98,11 @@ abbrev pub AreSure : Contents → List Attempt → Bool → List Hypothesis → 
 AreSure p all ok hyps = (k : ℕ) (h : Hypothesis)
     → slice_get hyps k ≡ Some h → IsReal p h.standing h.group × HasReached p all ok h.standing h.group
 
-next_of : (c : Codes) (now : Option Assigned) (ok : Bool) (t : Assigned) → ComesTo c now ok t.number t.give_ups → IsNext c now ok t
-next_of c None ok t h = h
-next_of c (Some last) ok t h = inr h
-
 -- from one attempt to the next
 module _ (p : Contents) (all : List Attempt) (ok : Bool) (a : Attempt) (t : Assigned) (sound : IsSound p t) (of : IsOf p (Some t) a) where
   lead : (s : Standing) (o : Option Group)
       → HasReached p all ok s o → LeadsBy p s o t → ReachesTo p (all ++ a ∷ []) (Some t) (is_some a.acked)
-  lead s None w l = to_push p all w.now ok t a w.reaches sound (next_of p.codes w.now ok t (w.comes t sound l)) of
+  lead s None w l = to_push p all w.now ok t a w.reaches sound (next_comes p.codes w.now ok t (w.comes t sound l)) of
   lead s (Some g) f (inl can) = to_push p all (Some t) ok t a (f t sound can) sound (inl refl) of
   lead s (Some g) f (inr (t0, s0, can, up)) = to_push p all (Some t0) ok t a (f t0 s0 can) sound (inr (inl up)) of
 
@@ -223,9 +216,6 @@ sure_assignable p items all ok hyps k h is at sure = let both = sure k h at in b
 
 -- ---- a hypothesis that is put to others
 
-in_range_of : (p : Contents) (t : Assigned) → IsSound p t → IsInRange p.codes.first_ldu t.number t.give_ups
-in_range_of p t sound = record { file = sound.file; ldu = sound.ldu; give_ups = sound.give_ups }
-
 named_back : (a : kept.Attempt) (n : UnitNumber) → IsNamed (number_of a.start) n → IfSome a.start (λ s. s.number ≡ n)
 named_back a n h = by a.start h
   where
@@ -261,7 +251,7 @@ module _ (p : Contents) (h : Hypothesis) (a : kept.Attempt) (s : Standing) (g : 
     real = record { standing = regular; unit = unit };
     group = refl;
     comes = λ t sound can.
-        let stands = comes t.number t.give_ups (in_range_of p t sound) can.0 in
+        let stands = comes t.number t.give_ups (in_range p t sound) can.0 in
         let fits = only t.unit can.1 in
         (record { unit = fits.1; number = named_back a t.number stands.0 }, leads_joined p h.standing h.group t stands.1 fits.0);
   }
@@ -275,7 +265,7 @@ module _ (p : Contents) (h : Hypothesis) (a : kept.Attempt) (s : Standing) (g : 
     real = record { standing = regular; unit = unit };
     group = refl;
     comes = λ t sound can.
-        let stands = comes t.number t.give_ups (in_range_of p t sound) can.0 in (
+        let stands = comes t.number t.give_ups (in_range p t sound) can.0 in (
           record { unit = only t.unit can.1; number = named_back a t.number stands.0 },
           leads_begun p h.standing h.group t real stands.1 stands.2,
         );
