@@ -1,5 +1,5 @@
 -- The trace of entries that come one by one.
-use Rattle.std.proofs.Common.{◌≡◌, ℕ, suc, ◌+◌, ◌-◌, ◌^◌, ◌<◌, min, List, [], ◌∷◌, ◌++◌, length, length-append, append_assoc, append-nil, take, Option, Some, None, Result, Ok, Err, IfOk, IfErr, IfSome, slice_get, refl, sym, ap, ◌∙◌, subst, inl, inr, arith}
+use Rattle.std.proofs.Common.{◌≡◌, ℕ, suc, ◌+◌, ◌-◌, ◌^◌, ◌<◌, min, List, [], ◌∷◌, ◌++◌, length, length-append, append_assoc, append-nil, take, Option, Some, None, Result, Ok, Err, IfErr, IfSome, slice_get, refl, sym, ap, ◌∙◌, subst, inl, inr, arith}
 use Rattle.a429_profile.specs.Profile.{Contents, IsProfile}
 use Rattle.a429_ldu.specs.declared.forms.Form.{Form}
 use Rattle.a429_ldu.specs.declared.sight.Sight.{Sight}

@@ -1,5 +1,5 @@
 -- How the listing of a certificate's units ends: by its verdict, at a fault, or where its output fails.
-use Rattle.std.proofs.Common.{◌≡◌, ◌||◌, ◌≤◌, ◌++◌, ◌∷◌, ◌∙◌, ◌⊎◌, ℕ, List, [], length, take, Vec, Global, Bool, true, false, Option, Some, None, Result, Ok, Err, inl, inr, refl, sym, ap, subst, append_assoc, length-append, arith}
+use Rattle.std.proofs.Common.{◌≡◌, ◌||◌, ◌≤◌, ◌++◌, ◌∙◌, ℕ, List, [], length, take, Vec, Global, Bool, true, false, Option, Some, None, Result, Ok, Err, inl, inr, refl, sym, ap, subst, append_assoc, length-append, arith}
 use Rattle.std.specs.Prelude.{IfOk, IfErr, OnOk, OnErr}
 use Rattle.std.specs.Io.KnownBytes.{append_known, Appends, Keeps}
 use Rattle.std.proofs.KnownBytes.{Appends-nil, Appends-trans}
@@ -17,16 +17,15 @@ use Rattle.a429_cert.specs.declared.fault.CertFault.{CertFault}
 use Rattle.a429_cert.specs.declared.stream_fault.StreamFault.TheVariants as stream
 use Rattle.a429_cert.specs.StreamExplained.{WhereBothKnown, IsHeardBefore}
 use Rattle.a429_cert.specs.Report.{listening, IsHeard, TriesSome, reports_of_run}
-use Rattle.a429_view.specs.declared.units.row.UnitRow.{UnitRow}
 use Rattle.a429_view.specs.declared.units.rows.UnitRows.{UnitRows}
 use Rattle.a429_view.specs.Units.{units_text, ended_text}
-use Rattle.a429_view.specs.UnitSteps.{HearsRows, TriesRows, AreRowLines, PutsInPart, line_before, PutsAll}
+use Rattle.a429_view.specs.UnitSteps.{HearsRows, TriesRows, PutsInPart, line_before, PutsAll}
 use Rattle.a429_view.proofs.UnitsFacts.{all_rows, ended_put}
 use Rattle.a429_view.proofs.UnitsTried.{Tried, part_both, rows_more, tried}
 use Rattle.a429_commands.specs.declared.engines.verdict.Judged.{Judged}
 use Rattle.a429_commands.specs.Ends.{Ends, answered, stopped, cut_off, refused}
 use Rattle.a429_commands.specs.Output.{output}
-use Rattle.a429_commands.specs.Verdict.{HasAnswer, HearsJudged, HearsUntil, Input, IsJudged, IsVerifyFault, TriesUntil, no_shelf, text_of_answer}
+use Rattle.a429_commands.specs.Verdict.{HasAnswer, HearsJudged, HearsUntil, Input, IsJudged, IsVerifyFault, TriesUntil, no_shelf}
 use Rattle.a429_view.specs.Verdict.{no_text}
 use Rattle.a429_commands.specs.declared.fault.RunFault.{RunFault}
 use Rattle.a429_commands.specs.declared.fault.RunFault.TheVariants as run

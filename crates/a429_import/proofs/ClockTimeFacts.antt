@@ -13,12 +13,13 @@ use Rattle.jiff_core.proofs.SignedLemmas.{signed_arith}
 use Rattle.a429_record.specs.Row.{all_digits}
 use Rattle.a429_record.proofs.RowDigits.{all_digits-to}
 use Rattle.a429_word.proofs.Powers.{pow-10_pos}
+use Rattle.a429_word.proofs.FixedOneSpelling.{value-append}
 use Rattle.a429_import.specs.declared.time.Reading.{Reading}
 use Rattle.a429_import.specs.declared.time.Unit.TheVariants as unit
 use Rattle.a429_import.specs.declared.clock_time.Half.{Half}
 use Rattle.a429_import.specs.ClockTime.{days_before, hour_in, is_day, seconds_in, sixtieth, time_at, time_on, within}
 use Rattle.a429_import.specs.Time.{are_time_digits, counted, time_with_part, AreFewDigits}
-use Rattle.a429_import.proofs.TimeFacts.{joined, time_digits}
+use Rattle.a429_import.proofs.TimeFacts.{time_digits}
 
 pub few_digits : (text : List ℕ) → length text ≤ 4 → all_digits 10 text ≡ true → AreFewDigits text
 few_digits text few h = record { few = omega (arith, few); digits = all_digits-to 10 text h }
@@ -46,7 +47,7 @@ seconds_below whole part all h =
     let p = 10 ^ length part in
     let some : 1 ≤ p * 1000 = omega (arith, pow-10_pos (length part)) in
     let less = below_minute (digits_value 10 whole) p (digits_value 10 part) h (digits_value-lt 10 part all) in
-    rw (joined whole part) (div_below ((digits_value 10 whole * p + digits_value 10 part) * 10 ^ 9) (p * 1000) 60000000 some less)
+    rw (value-append whole part) (div_below ((digits_value 10 whole * p + digits_value 10 part) * 10 ^ 9) (p * 1000) 60000000 some less)
 
 if_read : (b : Bool) (r : Reading) → (b ≡ true → r.micros < 60000000) → IfSome (if b then Some r else None) (λ r. r.micros < 60000000)
 if_read true r h = h refl

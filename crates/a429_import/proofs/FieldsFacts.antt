@@ -1,8 +1,9 @@
 -- Fields of a line: blanks at the ends of a text, words, and what `csv` reads in a text without quotes.
-use Rattle.std.proofs.Common.{◌≡◌, ℕ, zero, suc, ◌+◌, ◌-◌, ◌<◌, ◌≤◌, ◌==◌, List, [], ◌∷◌, ◌++◌, length, get_or, take, drop, Some, None, Bool, true, false, ◌&&◌, ◌||◌, not, if◌then◌else◌, refl, sym, ap, ◌∙◌, arith, append_assoc, append-nil}
+use Rattle.std.proofs.Common.{◌≡◌, ℕ, zero, suc, ◌+◌, ◌-◌, ◌<◌, ◌≤◌, ◌==◌, List, [], ◌∷◌, ◌++◌, length, get_or, take, drop, Some, None, Bool, true, false, ◌&&◌, ◌||◌, if◌then◌else◌, refl, sym, ap, ◌∙◌, arith, append_assoc, append-nil}
 use Rattle.std.specs.List.{list_all, list_any}
 use Rattle.std.proofs.lemmas.List.{take_more}
 use Rattle.std.proofs.lemmas.List.Folds.{list_all-append}
+use Rattle.std.proofs.Math.Bool.{and-false, and-true}
 use Rattle.csv.specs.Machine.{next_record}
 use Rattle.csv.specs.Records.{field_at}
 use Rattle.csv.specs.declared.parser.State.{State}
@@ -12,19 +13,11 @@ use Rattle.a429_import.specs.Piece.{before_first, pieces}
 
 -- ---- the ends of a text
 
-and-none : (b : Bool) → (b && false) ≡ false
-and-none true = refl
-and-none false = refl
-
-and-all : (b : Bool) → (b && true) ≡ b
-and-all true = refl
-and-all false = refl
-
 -- a last byte that is not so stays, with all before it
 last_stays : (is : ℕ → Bool) (xs : List ℕ) (b : ℕ) → is b ≡ false → without_last is (xs ++ b ∷ []) ≡ xs ++ b ∷ []
 last_stays is [] b h = rw h refl
 last_stays is (x ∷ xs) b h =
-    let none : list_all is ((x ∷ xs) ++ b ∷ []) ≡ false = list_all-append is (x ∷ xs) (b ∷ []) ∙ rw h (and-none (list_all is (x ∷ xs))) in
+    let none : list_all is ((x ∷ xs) ++ b ∷ []) ≡ false = list_all-append is (x ∷ xs) (b ∷ []) ∙ rw h (and-false (list_all is (x ∷ xs))) in
     ap (λ a. if a then [] else x ∷ without_last is (xs ++ b ∷ [])) none ∙ ap (λ (l : List ℕ). x ∷ l) (last_stays is xs b h)
 
 -- one that is so goes
@@ -32,7 +25,7 @@ last_goes : (is : ℕ → Bool) (xs : List ℕ) (b : ℕ) → is b ≡ true → 
 last_goes is [] b h = rw h refl
 last_goes is (x ∷ xs) b h =
     let same : list_all is ((x ∷ xs) ++ b ∷ []) ≡ list_all is (x ∷ xs) =
-    list_all-append is (x ∷ xs) (b ∷ []) ∙ rw h (and-all (list_all is (x ∷ xs))) in
+    list_all-append is (x ∷ xs) (b ∷ []) ∙ rw h (and-true (list_all is (x ∷ xs))) in
     ap (λ a. if a then [] else x ∷ without_last is (xs ++ b ∷ [])) same
     ∙ ap (λ (l : List ℕ). if list_all is (x ∷ xs) then [] else x ∷ l) (last_goes is xs b h)
 
@@ -202,10 +195,6 @@ plain-is quotes [] h = tt
 plain-is quotes (c ∷ cs) h =
     let parts = neither (c == 10) (quotes && (c == 34)) (list_any (is_mark quotes) cs) h in
     ((parts.0, parts.1), plain-is quotes cs parts.2)
-
-pub none_marked : (b : Bool) → not b ≡ true → b ≡ false
-none_marked true e = absurd (cc e)
-none_marked false e = refl
 
 -- a text that has something but blanks
 pub cut_is : (b : ℕ) (quotes : Bool) (text : List ℕ)

@@ -1,5 +1,5 @@
 -- What the lines of an export gave so far, and the recording of these.
-use Rattle.std.proofs.Common.{◌≡◌, ℕ, Bool, true, false, List, [], ◌∷◌, ◌++◌, Option, Some, None, Result, Ok, Err, IfOk, IfErr, IfSome, IsSome, refl, sym, ap, ◌∙◌, append_assoc}
+use Rattle.std.proofs.Common.{◌≡◌, ℕ, List, [], ◌∷◌, ◌++◌, Option, Some, None, Result, Ok, Err, IfOk, IfErr, IfSome, IsSome, refl, sym, ap, ◌∙◌, append_assoc}
 use Rattle.std.specs.Prelude.{⊤}
 use Rattle.std.specs.List.{flat_map}
 use Rattle.std.specs.Io.KnownBytes.{IsAtEnd}
@@ -146,10 +146,6 @@ ok_then (Err e) P Q h more = tt
 pub err_then : {A E : Type 0} (r : Result A E) (P Q : E → Type 0) → IfErr r P → ((e : E) → P e → Q e) → IfErr r Q
 err_then (Ok a) P Q h more = tt
 err_then (Err e) P Q h more = more e h
-
-pub still_works : (failed : Bool) → (failed ≡ true → ⊥) → failed ≡ false
-still_works true h = absurd (h refl)
-still_works false h = refl
 
 -- a fault at the next line
 pub stops_at : (m : Map) (bytes old new : Option (List ℕ)) (lots : List Lot) (s : Progress) (line : List ℕ) (f : ImportFault)

@@ -6,6 +6,7 @@ use Rattle.std.specs.declared.cmp.Ordering.TheVariants.{Less, Equal, Greater}
 use Rattle.std.specs.Ordering.{is_eq, is_gt}
 use Rattle.std.specs.BTreeMap.{BTreeMap, get}
 use Rattle.std.proofs.lemmas.Bool.Decides.{nat_tests}
+use Rattle.std.proofs.lemmas.Bool.{and_parts, or_right, or_left}
 use Rattle.a429_word.specs.declared.bus.Bus.{Bus}
 use Rattle.a429_word.specs.declared.bus.Bus.TheVariants as bus
 use Rattle.a429_record.specs.declared.entry.Entry.{Entry}
@@ -23,13 +24,6 @@ line_back bus.B = refl
 entry_back : (e : Entry) → entry_of (key_of e) ≡ e
 entry_back e = ap (λ (b : Bus). record { time = e.time; bus = b; word = e.word }) (line_back e.bus)
 
-or-right : (a b : Bool) → b ≡ true → (a || b) ≡ true
-or-right true b h = refl
-or-right false b h = h
-
-or-here : (a b : Bool) → a ≡ true → (a || b) ≡ true
-or-here a b h = rw h refl
-
 -- where a key of some entry is of one that comes again, it does
 is_among : (w : ℕ) (e : Entry) (es : List Entry) (k : SortKey) → is_again w e (entry_of k) ≡ true → 0 < times_in es k
     → is_repeat w es e ≡ true
@@ -41,9 +35,9 @@ is_among w e (x ∷ es) k again h = by (by_key (key_of x) k) refl (is_among w e 
 
     by : (o : Ordering) → by_key (key_of x) k ≡ o → (0 < times_in es k → is_repeat w es e ≡ true)
         → (is_again w e x || is_repeat w es e) ≡ true
-    by Less is more = or-right (is_again w e x) _ (more (omega (arith, fewer Less is)))
-    by Equal is more = or-here _ _ (ap (is_again w e) (sym (entry_back x) ∙ ap entry_of (same_keys (key_of x) k is)) ∙ again)
-    by Greater is more = or-right (is_again w e x) _ (more (omega (arith, fewer Greater is)))
+    by Less is more = or_right (is_again w e x) _ (more (omega (arith, fewer Less is)))
+    by Equal is more = or_left _ _ (ap (is_again w e) (sym (entry_back x) ∙ ap entry_of (same_keys (key_of x) k is)) ∙ again)
+    by Greater is more = or_right (is_again w e x) _ (more (omega (arith, fewer Greater is)))
 
 -- where no entry has such a key, it does not
 is_not_among : (w : ℕ) (e : Entry) (es : List Entry) → ((k : SortKey) → is_again w e (entry_of k) ≡ true → times_in es k ≡ 0)
@@ -60,10 +54,6 @@ is_not_among w e (x ∷ es) h =
     by false is more = rw is more
 
 -- ---- the first key from the least one on decides
-
-both : (a b : Bool) → (a && b) ≡ true → (a ≡ true) × (b ≡ true)
-both true b h = (refl, h)
-both false b h = absurd (cc h)
 
 same_line : (b : Bus) (c : Bool) → is_same_line b (line_of c) ≡ true → is_on_b b ≡ c
 same_line bus.A true h = absurd (cc h)
@@ -83,9 +73,9 @@ numbers_say u v w d h k = (grind (arith, nat_tests), grind (arith, nat_tests))
 again_says : (w : ℕ) (e : Entry) (k : SortKey) → is_again w e (entry_of k) ≡ true
     → (is_on_b e.bus ≡ k.is_on_b) × (e.word ≡ k.word) × (e.time - k.time ≤ w) × (k.time - e.time ≤ w)
 again_says w e k h =
-    let line = both (is_same_line e.bus (line_of k.is_on_b)) _ h in
-    let word = both (e.word == k.word) _ line.1 in
-    let time = both (nat_le (e.time - k.time) w) _ word.1 in
+    let line = and_parts (is_same_line e.bus (line_of k.is_on_b)) _ h in
+    let word = and_parts (e.word == k.word) _ line.1 in
+    let time = and_parts (nat_le (e.time - k.time) w) _ word.1 in
     let before = numbers_say e.word k.word w (e.time - k.time) word.0 time.0 in
     (same_line e.bus k.is_on_b line.0, before.0, before.1, (numbers_say e.word k.word w (k.time - e.time) word.0 time.1).1)
 

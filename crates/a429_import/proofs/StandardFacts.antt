@@ -15,16 +15,15 @@ use Rattle.a429_word.specs.declared.bus.Bus.TheVariants.{A, B}
 use Rattle.a429_word.specs.Bus.{bus_text}
 use Rattle.a429_word.specs.Digits.{hex_text}
 use Rattle.a429_record.specs.declared.entry.Entry.{Entry}
-use Rattle.a429_record.specs.Ends.{HasNoEnd}
 use Rattle.a429_record.specs.Recording.{recording_lines, NeverFalls}
 use Rattle.a429_record.specs.Row.{all_digits}
 use Rattle.a429_record.specs.WholeRecordings.{AreEntries}
 use Rattle.a429_record.specs.Writing.{line_text, written_form}
-use Rattle.a429_record.proofs.LinePlain.{AllHigh}
+use Rattle.a429_record.proofs.LinePlain.{AllHigh, no_mark}
 use Rattle.a429_record.proofs.LinesFacts.{lines_of-ended}
 use Rattle.a429_record.proofs.RowDigits.{all_digits-from}
 use Rattle.a429_record.proofs.WritingFacts.{AllHigh-decimal, AllHigh-bus, AllHigh-numeral}
-use Rattle.a429_record.proofs.WrittenIsReadBack.{body, body-end, line-is, word-back}
+use Rattle.a429_record.proofs.WrittenIsReadBack.{body, body-end, line-is, word-back, header-end}
 use Rattle.a429_import.specs.declared.channel.Channel.TheVariants.{Line}
 use Rattle.a429_import.specs.declared.columns.Columns.{Columns}
 use Rattle.a429_import.specs.declared.lot.Lot.{Lot}
@@ -118,12 +117,6 @@ none-line is e h high comma =
       none-append is (bus_text e.bus) (44 ∷ (hex_text e.word ++ [])) (none-high is (bus_text e.bus) high (AllHigh-bus e.bus))
           (comma, none-append is (hex_text e.word) [] (none-high is (hex_text e.word) high (AllHigh-numeral 8 e.word)) tt),
     )
-
-no_mark : (a : ℕ) (rest : List ℕ) → a ≤ 57 → strip_bom (a ∷ rest) ≡ a ∷ rest
-unfolding strip_bom
-no_mark a [] h = refl
-no_mark a (b ∷ []) h = refl
-no_mark a (b ∷ c ∷ rest) h = let n : (a == 239) ≡ false = grind (arith, nat_tests) in rw n refl
 
 low_digit : (b : ℕ) → digit_value b < 10 → b ≤ 57
 low_digit b h = grind (arith, nat_tests)
@@ -258,9 +251,6 @@ header_lot = refl
 header_columns : (progress_after standard_map (at_start standard_map) (codes "time,bus,word") lot.Heading).columns ≡ Some standing
 unfolding strip_bom
 header_columns = ap (λ (l : List (List ℕ)). columns_in standard_map (map trimmed l)) (cut_is 44 true (codes "time,bus,word") refl refl)
-
-header-end : HasNoEnd (codes "time,bus,word")
-header-end = search rules
 
 all_is : (es : List Entry)
     → AreEntries es → NeverFalls 0 es → imported standard_map (written_form es) ≡ record { lots = lot.Heading ∷ map kept es; fault = None }

@@ -3,6 +3,7 @@ use Rattle.std.proofs.Common.{◌≡◌, ℕ, List, [], ◌∷◌, ◌++◌, Boo
 use Rattle.std.specs.List.{list_any}
 use Rattle.std.proofs.lemmas.List.Folds.{list_any-append}
 use Rattle.std.specs.Prelude.{bytes_eq}
+use Rattle.std.proofs.Math.Bool.{or_assoc}
 use Rattle.a429_import.specs.Texts.{has_text, has_twin}
 
 or-move : (p q r s u : Bool) → ((p || q) || (r || (s || u))) ≡ ((p || r) || ((q || s) || u))
@@ -11,10 +12,6 @@ or-move false true true s u = refl
 or-move false true false s u = refl
 or-move false false true s u = refl
 or-move false false false s u = refl
-
-or-more : (p q r : Bool) → ((p || q) || r) ≡ (p || (q || r))
-or-more true q r = refl
-or-more false q r = refl
 
 -- a twin in two lists together is one in either, or a text of both
 pub has_twin_join : (xs ys : List (List ℕ)) → has_twin (xs ++ ys) ≡ (has_twin xs || (list_any (has_text ys) xs || has_twin ys))
@@ -45,4 +42,4 @@ pub has_twin_three : (xs ys zs : List (List ℕ))
 has_twin_three xs ys zs =
     has_twin_join xs (ys ++ zs)
     ∙ ap (λ b. has_twin xs || (b || has_twin (ys ++ zs))) (shared-join xs ys zs)
-    ∙ ap (λ b. has_twin xs || b) (or-more (list_any (has_text ys) xs) (list_any (has_text zs) xs) (has_twin (ys ++ zs)))
+    ∙ ap (λ b. has_twin xs || b) (or_assoc (list_any (has_text ys) xs) (list_any (has_text zs) xs) (has_twin (ys ++ zs)))

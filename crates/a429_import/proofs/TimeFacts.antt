@@ -3,7 +3,7 @@ use Rattle.std.proofs.Common.{◌≡◌, ℕ, zero, suc, ◌+◌, ◌-◌, ◌*�
 use Rattle.std.specs.Char.{digit_value}
 use Rattle.std.specs.Str.Parse.{digits_value, digits_value_after, AllDigits}
 use Rattle.std.specs.List.{list_any}
-use Rattle.std.proofs.lemmas.Bool.{and_parts, cases_lt}
+use Rattle.std.proofs.lemmas.Bool.{and_parts, cases_lt, or_cases}
 use Rattle.std.proofs.lemmas.Bool.Decides.{nat_tests}
 use Rattle.std.proofs.lemmas.List.{take_more, take-append-drop}
 use Rattle.std.proofs.lemmas.Nat.{pow-add, div-mul-add, mod-mul-add}
@@ -12,6 +12,7 @@ use Rattle.std.proofs.Math.Nat.{pow-le-pow_right}
 use Rattle.a429_record.specs.Row.{all_digits}
 use Rattle.a429_record.proofs.RowDigits.{all_digits-to}
 use Rattle.a429_word.proofs.Powers.{pow-10_pos}
+use Rattle.a429_word.proofs.FixedOneSpelling.{value_after-append, value-append, value-cons}
 use Rattle.a429_import.specs.declared.time.Reading.{Reading}
 use Rattle.a429_import.specs.Time.{counted, are_time_digits, AreFewDigits}
 
@@ -25,24 +26,6 @@ pub no_digits : AreFewDigits []
 no_digits = record { few = omega arith; digits = tt }
 
 -- ---- digits after others
-
-pub after-more : (n : ℕ) (xs ys : List ℕ) → digits_value_after 10 n (xs ++ ys) ≡ digits_value_after 10 (digits_value_after 10 n xs) ys
-after-more n [] ys = refl
-after-more n (x ∷ xs) ys = after-more (n * 10 + digit_value x) xs ys
-
-pub after-is : (n : ℕ) (ds : List ℕ) → digits_value_after 10 n ds ≡ n * 10 ^ length ds + digits_value 10 ds
-after-is n [] = omega arith
-after-is n (d ∷ ds) =
-    let p = pow-suc 10 (length ds) in
-    let long = after-is (n * 10 + digit_value d) ds in
-    let short = after-is (digit_value d) ds in
-    let none : 0 * 10 + digit_value d ≡ digit_value d = omega arith in
-    let first : digits_value 10 (d ∷ ds) ≡ digit_value d * 10 ^ length ds + digits_value 10 ds =
-    ap (λ m. digits_value_after 10 m ds) none ∙ short in
-    long ∙ rw (first, p) (omega arith)
-
-pub joined : (xs ys : List ℕ) → digits_value 10 (xs ++ ys) ≡ digits_value 10 xs * 10 ^ length ys + digits_value 10 ys
-joined xs ys = after-more 0 xs ys ∙ after-is (digits_value 10 xs) ys
 
 -- ---- a number is 0 where each of its digits is
 
@@ -63,16 +46,11 @@ digit_above_zero false d p v e small some =
     let test : (digit_value d * p + v == 0) ≡ false = grind (arith, nat_tests) in
     rw test refl
 
-first_digit : (d : ℕ) (ds : List ℕ) → digits_value 10 (d ∷ ds) ≡ digit_value d * 10 ^ length ds + digits_value 10 ds
-first_digit d ds =
-    let none : 0 * 10 + digit_value d ≡ digit_value d = omega arith in
-    ap (λ m. digits_value_after 10 m ds) none ∙ after-is (digit_value d) ds
-
 pub above_zero : (ds : List ℕ) → AllDigits 10 ds → list_any (λ b. not (b == 48)) ds ≡ not (digits_value 10 ds == 0)
 above_zero [] all = refl
 above_zero (d ∷ ds) all =
     rw (above_zero ds all.1) (digit_above_zero (d == 48) d (10 ^ length ds) (digits_value 10 ds) refl all.0 (pow-10_pos (length ds))
-    ∙ ap (λ n. not (n == 0)) (sym (first_digit d ds)))
+    ∙ ap (λ n. not (n == 0)) (sym (value-cons d ds)))
 
 -- ---- digit by digit
 
@@ -89,7 +67,7 @@ AllDigits-drop (d ∷ ds) (suc i) all = AllDigits-drop ds i all.1
 pub next_digit : (n m : ℕ) (ds : List ℕ) (i d : ℕ) → i < length ds → m ≡ digits_value_after 10 n (take i ds)
     → d ≡ digit_value (get_or ds i 0) → m * 10 + d ≡ digits_value_after 10 n (take (i + 1) ds)
 next_digit n m ds i d inside e f =
-    rw (take_more ds i 0 inside, after-more n (take i ds) (get_or ds i 0 ∷ []), ← e, f) refl
+    rw (take_more ds i 0 inside, value_after-append n (take i ds) (get_or ds i 0 ∷ []), ← e, f) refl
 
 power_step : (len i : ℕ) → i < len → 10 ^ (len - i) ≡ 10 ^ (len - (i + 1)) * 10
 power_step len i inside =
@@ -118,14 +96,10 @@ first_room w h =
     let most : 10 ^ w ≤ 10 ^ 36 = pow-le-pow_right (omega arith) more in
     omega arith
 
-by_either : (a b : Bool) → (a || b) ≡ true → (a ≡ true) ⊎ (b ≡ true)
-by_either true b h = inl refl
-by_either false b h = inr h
-
 -- 64 bits have room
 pub short_room : (n c : ℕ) → ((n == 0 && nat_le c 19) || (nat_lt n 10000000000000 && nat_le c 6)) ≡ true → (n + 1) * 10 ^ c ≤ 10 ^ 19
 short_room n c h =
-    elim (by_either (n == 0 && nat_le c 19) (nat_lt n 10000000000000 && nat_le c 6) h) [ inl a ↦ none_before a | inr a ↦ some_before a ]
+    elim (or_cases (n == 0 && nat_le c 19) (nat_lt n 10000000000000 && nat_le c 6) h) [ inl a ↦ none_before a | inr a ↦ some_before a ]
   where
     none_before : (n == 0 && nat_le c 19) ≡ true → (n + 1) * 10 ^ c ≤ 10 ^ 19
     none_before a =
@@ -214,8 +188,8 @@ split_number : (k n : ℕ) (whole part : List ℕ) → n ≡ digits_value_after 
 split_number k n whole part e =
     let parts : whole ++ part ≡ (whole ++ take k part) ++ drop k part =
     ap (λ (x : List ℕ). whole ++ x) (sym (take-append-drop k part)) ∙ sym (append_assoc whole (take k part) (drop k part)) in
-    let front : digits_value 10 (whole ++ take k part) ≡ n = after-more 0 whole (take k part) ∙ sym e in
-    ap (digits_value 10) parts ∙ joined (whole ++ take k part) (drop k part) ∙ rw (front, length-drop k part) refl
+    let front : digits_value 10 (whole ++ take k part) ≡ n = value_after-append 0 whole (take k part) ∙ sym e in
+    ap (digits_value 10) parts ∙ value-append (whole ++ take k part) (drop k part) ∙ rw (front, length-drop k part) refl
 
 pub kept_is : (p k n : ℕ) (whole part : List ℕ) (cut : Bool)
     → k ≡ min (length part) p → n ≡ digits_value_after 10 (digits_value_after 10 0 whole) (take k part) → AllDigits 10 part
@@ -252,7 +226,7 @@ nanoseconds_are : (w : ℕ) (whole part : List ℕ) (cut : Bool) → w ≡ digit
 nanoseconds_are w whole part cut e all last =
     let b = digits_value 10 part in
     let x = 10 ^ length part in
-    let value : digits_value 10 (whole ++ part) ≡ w * x + b = rw e (joined whole part) in
+    let value : digits_value 10 (whole ++ part) ≡ w * x + b = rw e (value-append whole part) in
     counted-is 1 (w / 1000) (w % 1000 * x + b) whole part cut (ap (λ v. v * 1) value ∙ thousandths w x b)
     (thousandths_below w x b (digits_value-lt 10 part all)) last
 

@@ -4,6 +4,7 @@ use Rattle.std.specs.List.{AllByRecursion, concat}
 use Rattle.std.specs.Option.{option_to_list, option_map, option_and_then}
 use Rattle.std.proofs.lemmas.List.{take_more}
 use Rattle.std.proofs.lemmas.Nat.{or_shifted}
+use Rattle.std.proofs.lemmas.Option.{same_Some}
 use Rattle.a429_word.specs.declared.bus.Bus.TheVariants as bus
 use Rattle.a429_profile.specs.declared.codes.Codes.{Codes}
 use Rattle.a429_profile.specs.Profile.{Contents, IsProfile}
@@ -266,9 +267,6 @@ all_read c ws (w ∷ rest) read e before = absurd (cc)
 
 -- ---- the bytes carried, as they are computed and as they are defined
 
-some_same : {A : Type 0} {x y : A} → Some x ≡ Some y → x ≡ y
-some_same e = cc
-
 record Joins (a b : Option (List ℕ)) (zs : List ℕ) : Type 0 where
   xs : List ℕ
   ys : List ℕ
@@ -277,12 +275,12 @@ record Joins (a b : Option (List ℕ)) (zs : List ℕ) : Type 0 where
   whole : zs ≡ xs ++ ys
 
 joins : (a b : Option (List ℕ)) (zs : List ℕ) → joined_to a b ≡ Some zs → Joins a b zs
-joins (Some xs) (Some ys) zs e = record { xs = xs; ys = ys; first = refl; second = refl; whole = sym (some_same e) }
+joins (Some xs) (Some ys) zs e = record { xs = xs; ys = ys; first = refl; second = refl; whole = sym (same_Some _ _ e) }
 joins (Some xs) None zs e = absurd (cc)
 joins None b zs e = absurd (cc)
 
 semis_in-some : (o : Option Form) (xs : List ℕ) → semis_in o ≡ Some xs → o ≡ Some (Part xs)
-semis_in-some (Some (Part ys)) xs e = ap (λ zs. Some (Part zs)) (some_same e)
+semis_in-some (Some (Part ys)) xs e = ap (λ zs. Some (Part zs)) (same_Some _ _ e)
 semis_in-some (Some (Rts n)) xs e = absurd (cc)
 semis_in-some (Some (Cts n)) xs e = absurd (cc)
 semis_in-some (Some (Ack file ldu)) xs e = absurd (cc)
@@ -305,7 +303,7 @@ record AreRead (c : Codes) (ws ss : List ℕ) : Type 0 where
   digits : AreDigits ss
 
 read : (p : Contents) → IsProfile p → (ws ss : List ℕ) → semis_of_words p.codes ws ≡ Some ss → AreRead p.codes ws ss
-read p is [] ss e = let e0 = some_same e in record { semis = []; words = tt; joined = e0; digits = subst AreDigits e0 tt }
+read p is [] ss e = let e0 = same_Some _ _ e in record { semis = []; words = tt; joined = e0; digits = subst AreDigits e0 tt }
 read p is (w ∷ ws) ss e =
     let j = joins (semis_in (form_of p.codes bus.A w)) (semis_of_words p.codes ws) ss e in
     let form = ((form_of-is p is bus.A w (Part j.xs)).0 (semis_in-some (form_of p.codes bus.A w) j.xs j.first)).1 in
@@ -319,14 +317,14 @@ read p is (w ∷ ws) ss e =
 
 mapped : (n : ℕ) (o : Option (List ℕ)) (bs : List ℕ)
     → option_map (λ bytes. n ∷ bytes) o ≡ Some bs → (rest : List ℕ) × (o ≡ Some rest) × (bs ≡ n ∷ rest)
-mapped n (Some xs) bs e = (xs, refl, sym (some_same e))
+mapped n (Some xs) bs e = (xs, refl, sym (same_Some _ _ e))
 mapped n None bs e = absurd (cc)
 
 pair : (l h : ℕ) → l < 16 → ((l + 16 * h) % 16 ≡ l) × ((l + 16 * h) / 16 ≡ h)
 pair l h small = (omega arith, omega arith)
 
 paired_back : (ss bs : List ℕ) → AreDigits ss → paired ss ≡ Some bs → ss ≡ semis_of_bytes bs
-paired_back [] bs small e = ap semis_of_bytes (some_same e)
+paired_back [] bs small e = ap semis_of_bytes (same_Some _ _ e)
 paired_back (l ∷ []) bs small e = absurd (cc)
 paired_back (l ∷ h ∷ ss) bs small e =
     let m = mapped (l + 16 * h) (paired ss) bs e in
@@ -335,7 +333,7 @@ paired_back (l ∷ h ∷ ss) bs small e =
     ∙ ap (λ n. (l + 16 * h) % 16 ∷ n ∷ semis_of_bytes m.0) (sym again.1) ∙ ap semis_of_bytes (sym m.2)
 
 if_some-some : (o : Option (List ℕ)) (bs : List ℕ) → if_some o ≡ Some bs → (o ≡ Some bs) × (1 ≤ length bs)
-if_some-some (Some (b ∷ bs)) cs e = (e, subst (λ (xs : List ℕ). 1 ≤ length xs) (some_same e) (omega arith))
+if_some-some (Some (b ∷ bs)) cs e = (e, subst (λ (xs : List ℕ). 1 ≤ length xs) (same_Some _ _ e) (omega arith))
 if_some-some (Some []) cs e = absurd (cc)
 if_some-some None cs e = absurd (cc)
 
@@ -394,7 +392,7 @@ pieces_none p ws rest none (inr is) h bs k = answer_none p is ws (sym h) bs k
 
 -- words carry one list of bytes
 pub one_list : (p : Contents) → IsProfile p → (ws xs ys : List ℕ) → CarryBytes p.codes ws xs → CarryBytes p.codes ws ys → xs ≡ ys
-one_list p is ws xs ys hx hy = some_same (sym (carried_of p is ws xs hx) ∙ carried_of p is ws ys hy)
+one_list p is ws xs ys hx hy = same_Some _ _ (sym (carried_of p is ws xs hx) ∙ carried_of p is ws ys hy)
 
 -- ---- how many bytes
 

@@ -3,7 +3,7 @@ use Rattle.std.proofs.Common.{◌≡◌, ℕ, get_or, length, ◌++◌, zero, su
 use Rattle.std.specs.Int.{bit_at, reverse_bits_onto}
 use Rattle.std.specs.List.{flat_map, AllByRecursion}
 use Rattle.std.proofs.lemmas.Grind.{fold-append}
-use Rattle.std.proofs.lemmas.Nat.{xor_mod, xor_lt, and_le_r, xor_shr, xor_block, xor_comm, and_mask, mod-pow-add}
+use Rattle.std.proofs.lemmas.Nat.{xor_mod, xor_shr, xor_block, xor_comm, and_mask, mod-pow-add}
 use Rattle.std.specs.Int.Bits.{xor_assoc, xor_self, xor_zero_r, xor_shifted}
 use Rattle.std.proofs.lemmas.Nat.Bits.{bit_at_xor, bit_at-suc}
 use Rattle.a429_profile.specs.CheckTables.{turned, fed_down, after_zeros}

@@ -1,6 +1,7 @@
 -- Words and their forms, both ways, for the codes of a profile.
 use Rattle.std.proofs.Common.{◌≡◌, ◌↔◌, ℕ, ◌+◌, ◌*◌, ◌%◌, ◌^◌, ◌<◌, ◌≤◌, Bool, true, false, cond, not, ◌||◌, ◌==◌, nat_le, List, [], ◌∷◌, slice_index, Option, Some, None, refl, sym, ap, ◌∙◌, arith}
 use Rattle.std.proofs.lemmas.Bool.{or_parts, or_from, eqb-true, leb-false, lt-leb, not-false}
+use Rattle.std.proofs.lemmas.Option.{same_Some}
 use Rattle.a429_word.specs.Word.{label_of, count_of_ones, HasOddParity}
 use Rattle.a429_word.specs.declared.bus.Bus.{Bus}
 use Rattle.a429_word.specs.declared.bus.Bus.TheVariants as bus
@@ -132,11 +133,8 @@ made_number p is c e x h w l f er el label fields parity word =
 pub form_on-found : (c : Codes) (b : Bus) (w : ℕ) (x : Form) → AreDistinct c → IsForm c b w x → form_on c b (fields_of w) ≡ Some x
 form_on-found c b w x d is = ap (λ o. form_on c o (fields_of w)) is.bus ∙ ap (form_on c (bus_of x)) is.fields ∙ row_told c d x is.range
 
-some_same : {A : Type 0} {x y : A} → Some x ≡ Some y → x ≡ y
-some_same e = cc
-
 pub one_form : (p : Contents) → IsProfile p → (b : Bus) (w : ℕ) (x y : Form) → IsForm p.codes b w x → IsForm p.codes b w y → x ≡ y
-one_form p is b w x y hx hy = let d = distinct p is in some_same (sym (form_on-found p.codes b w x d hx) ∙ form_on-found p.codes b w y d hy)
+one_form p is b w x y hx hy = let d = distinct p is in same_Some _ _ (sym (form_on-found p.codes b w x d hx) ∙ form_on-found p.codes b w y d hy)
 
 -- the form that is found in a word of good parity with the label of its bus
 pub told_form : (c : Codes) (b : Bus) (w : ℕ) (x : Form)

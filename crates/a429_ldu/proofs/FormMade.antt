@@ -3,7 +3,7 @@ use Rattle.std.proofs.Common.{◌≡◌, ℕ, ◌+◌, ◌-◌, ◌*◌, ◌/◌
 use Rattle.std.specs.Int.{reverse_bits_onto}
 use Rattle.a429_word.specs.Word.{sum_below, label_of, sdi_of, field_of, ssm_of, count_of_ones, HasOddParity}
 use Rattle.a429_word.proofs.WordBits.{number_at-is, number_at-lt, label-is, reversed_twice}
-use Rattle.a429_word.proofs.WordMade.{same_from_fields, odd_made}
+use Rattle.a429_word.proofs.WordMade.{same_from_fields, odd_made, reversed-lt}
 use Rattle.a429_ldu.specs.Form.{Fields, fields_of, label_bits, joined_fields, with_parity_bit}
 use Rattle.a429_ldu.proofs.FormTests.{AreSmall, alike}
 
@@ -16,10 +16,6 @@ small_fields w =
 pub label_bits-reversed : (l : ℕ) → label_bits l ≡ reverse_bits_onto 8 l 0
 unfolding sum_below reverse_bits_onto
 label_bits-reversed l = omega arith
-
-reversed-lt : (l : ℕ) → reverse_bits_onto 8 l 0 < 256
-unfolding reverse_bits_onto
-reversed-lt l = omega arith
 
 pub label_bits-lt : (l : ℕ) → label_bits l < 256
 label_bits-lt l = let small = reversed-lt l in let e = label_bits-reversed l in omega arith

@@ -1,8 +1,9 @@
 -- The numbers of a transfer word as shifts and masks read them, and put them together.
 use Rattle.std.proofs.Common.{◌≡◌, ℕ, suc, ◌+◌, ◌*◌, ◌/◌, ◌%◌, ◌^◌, ◌<◌, ◌≤◌, refl, sym, ap, ◌∙◌, arith, bit_and, bit_or}
-use Rattle.std.proofs.lemmas.Nat.{or_shifted, and_mask}
+use Rattle.std.proofs.lemmas.Nat.{and_mask}
 use Rattle.a429_word.specs.Word.{number_at, sdi_of, field_of, ssm_of}
 use Rattle.a429_word.proofs.WordBits.{number_at-is, masked_from}
+use Rattle.a429_word.proofs.WordMade.{or_below}
 use Rattle.a429_ldu.specs.Form.{Fields, fields_of}
 use Rattle.a429_ldu.proofs.FormTests.{alike}
 
@@ -40,10 +41,6 @@ fields_joined w v k f e fields kind =
     (number_at-is v 8 8 ∙ lower_in v ∙ sym (ap (λ m. m % 256) n))
 
 -- ---- put together
-
--- bits below the others are added
-or_below : (m a k b : ℕ) → m ≡ a * 2 ^ k → b < 2 ^ k → bit_or m b ≡ m + b
-or_below m a k b e h = rw e (or_shifted a k b h)
 
 summed : (k u m l : ℕ) → k < 2 → u < 16 → m < 256 → l < 64 →
     bit_or (bit_or (bit_or (k * 262144 % 4294967296) (u * 16384 % 4294967296)) (m * 64 % 4294967296)) l ≡ k * 262144 + u * 16384 + m * 64

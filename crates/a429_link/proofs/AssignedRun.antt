@@ -19,7 +19,7 @@ use Rattle.a429_link.specs.Source.{Source}
 use Rattle.a429_link.specs.State.{State}
 use Rattle.a429_link.specs.Attempt.{Attempt, asks, attempts_from, fresh, goes_on_to}
 use Rattle.a429_link.specs.Assignment.{Assigned, GoOnAssigned, IsAssignable}
-use Rattle.a429_link.proofs.Message.{Ack, Cts, Eot, IsRead, Message, Rts, Sot, no_part}
+use Rattle.a429_link.proofs.Message.{Eot, IsRead, Message, Rts, Sot, no_part}
 use Rattle.a429_link.proofs.StateConfigs.{may_answer, source_at}
 use Rattle.a429_link.proofs.SinkFromTrace.{free_sees}
 use Rattle.a429_link.proofs.RunTraces.{AllAllowed, see_item, trace_allowed}

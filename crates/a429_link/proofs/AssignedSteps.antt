@@ -26,7 +26,7 @@ use Rattle.a429_link.specs.Step.{Can, after, label}
 use Rattle.a429_link.specs.Attempt.{Attempt, asks, attempts_from, fresh, goes_on_to, grown}
 use Rattle.a429_link.specs.Assignment.{AreAssigned, Assigned, GivesUp, GoOnAssigned, IsNext, IsSound}
 use Rattle.a429_link.proofs.CleanRuns.{end_append, run_append, trace_append}
-use Rattle.a429_link.proofs.Message.{Ack, Cts, Eot, IsRead, Message, Rts, Sot, end_message, front, with_answer_as, message_in, message_of}
+use Rattle.a429_link.proofs.Message.{Ack, Cts, Eot, IsRead, Message, end_message, front, with_answer_as, message_in, message_of}
 use Rattle.a429_link.proofs.NumberFacts.{number_from, number_same}
 use Rattle.a429_link.proofs.SourceBlock.{block_length}
 use Rattle.a429_link.proofs.StateConfigs.{InGrant, acks_count, front_words, length-front, sink_at, source_at}

@@ -20,7 +20,7 @@ use Rattle.a429_link.specs.Sink.{Sink, SinkPhase}
 use Rattle.a429_link.specs.Source.{Source}
 use Rattle.a429_link.specs.State.{State, rest, start}
 use Rattle.a429_link.specs.Step.{Can, after, label}
-use Rattle.a429_link.proofs.Message.{Ack, Cts, Eot, IsRead, Message, Nak, Part, Rts, Sot, message_in, message_of, next_message}
+use Rattle.a429_link.proofs.Message.{Cts, Eot, IsRead, Message, Part, Sot, message_in, message_of, next_message}
 use Rattle.a429_link.proofs.Subsequence.{sub_length}
 use Rattle.a429_link.proofs.SourceBlock.{block_length}
 use Rattle.a429_link.proofs.SinkShelves.{Past}

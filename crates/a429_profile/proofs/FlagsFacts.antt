@@ -1,10 +1,9 @@
 -- The texts of flags, one after the other.
-use Rattle.std.proofs.Common.{◌≡◌, ℕ, ◌+◌, ◌<◌, List, [], ◌∷◌, ◌++◌, ◌≤◌, length, length-append, length-take, take, drop, get_or, sym, ap, ◌∙◌, append-nil, append_assoc, codes, arith}
+use Rattle.std.proofs.Common.{◌≡◌, ℕ, ◌+◌, ◌<◌, List, [], ◌∷◌, ◌++◌, ◌≤◌, length, length-append, length-take, take, drop, get_or, sym, ap, ◌∙◌, append_assoc, codes, arith}
 use Rattle.std.specs.Fmt.{decimal}
 use Rattle.std.specs.List.{flat_map}
 use Rattle.std.proofs.lemmas.Fmt.{decimal_digit}
-use Rattle.std.proofs.lemmas.Grind.{flat_map-append}
-use Rattle.std.proofs.lemmas.List.{take_more, drop_more, take-take, take_at, drop-take, drop_at, drop-drop}
+use Rattle.std.proofs.lemmas.List.{drop_more, take-take, take_at, drop-take, drop_at, drop-drop}
 use Rattle.a429_profile.specs.declared.entry.Flag.{Flag}
 use Rattle.a429_profile.specs.Flags.{text_with, both_texts}
 

@@ -1,8 +1,8 @@
 -- Of a word one thing is shown.
-use Rattle.std.proofs.Common.{◌≡◌, ℕ, zero, suc, ◌*◌, ◌/◌, ◌^◌, ◌<◌, ◌⊎◌, inl, inr, ℤ, pos, negsuc, neg_ℤ, ◌*ℤ◌, Bool, true, false, Option, Some, None, refl, sym, ap, ◌∙◌, arith, subst}
+use Rattle.std.proofs.Common.{◌≡◌, ℕ, zero, suc, ◌*◌, ◌^◌, ◌<◌, ◌⊎◌, inl, inr, ℤ, pos, negsuc, neg_ℤ, ◌*ℤ◌, Bool, true, false, Option, Some, None, refl, sym, ap, ◌∙◌, arith, subst}
 use Rattle.std.specs.List.{find}
 use Rattle.std.specs.Borrow.{Bor}
-use Rattle.std.proofs.Math.Nat.{mul-div_cancel, mul-pos}
+use Rattle.std.proofs.Math.Nat.{mul-pos}
 use Rattle.std.proofs.Math.IntN.{pos-*ℤ-pos, negsuc-*ℤ-pos}
 use Rattle.std.proofs.lemmas.Nat.{pow_pos}
 use Rattle.std.proofs.lemmas.Bool.{cases_order}
@@ -11,6 +11,7 @@ use Rattle.a429_word.specs.Bnr.{raw_of}
 use Rattle.a429_word.specs.Bcd.{IsFirstBad}
 use Rattle.a429_word.specs.declared.fixed.Fixed.{Fixed}
 use Rattle.a429_word.proofs.Powers.{pow-10_pos}
+use Rattle.a429_word.proofs.FixedOneSpelling.{cancel}
 use Rattle.a429_profile.specs.declared.entry.Kind.{Kind}
 use Rattle.a429_profile.specs.declared.entry.Kind.TheVariants.{Bnr, Bcd, Discrete}
 use Rattle.a429_profile.specs.declared.entry.LabelEntry.{LabelEntry}
@@ -24,9 +25,6 @@ use Rattle.a429_profile.specs.Value.{natural}
 use Rattle.a429_profile.specs.Shown.{sense_of, HasValue, IsBnrValue, IsValue, IsBadPlace, IsDiscrete, IsEntryOf, IsShown, ShowSame, same_parity, same_no_entry, same_status, same_digit, same_value, same_bits}
 
 -- ---- numbers
-
-cancel : (a b k : ℕ) → 0 < k → a * k ≡ b * k → a ≡ b
-cancel a b k h e = sym (mul-div_cancel a h) ∙ ap (λ n. n / k) e ∙ mul-div_cancel b h
 
 not_minus : (m n : ℕ) → 0 < n → pos m ≡ neg_ℤ (pos n) → ⊥
 not_minus m zero some h = omega arith

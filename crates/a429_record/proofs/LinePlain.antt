@@ -11,6 +11,7 @@ use Rattle.csv.specs.declared.parser.State.TheVariants as st
 use Rattle.csv.proofs.RoundTrip.{plain-run, start-same, record-same}
 use Rattle.a429_word.specs.declared.bus.Bus.{Bus}
 use Rattle.a429_record.specs.declared.entry.Entry.{Entry}
+use Rattle.a429_record.specs.Ends.{HasNoEnd}
 use Rattle.a429_record.specs.Row.{records_of, all_digits, time_in, bus_in, word_in, entry_in, entry_with}
 use Rattle.a429_record.specs.Line.{line_entries}
 use Rattle.a429_record.specs.Plain.{IsLineEnd}
@@ -29,6 +30,10 @@ high b h = (grind (arith, nat_tests), grind (arith, nat_tests), grind (arith, na
 pub plain : (xs : List ℕ) → AllHigh xs → list_any (needs_byte default_writer) xs ≡ false
 plain [] h = refl
 plain (b ∷ bs) h = let q = high b h.0 in rw (q.0, q.1, q.2, q.3) (plain bs h.1)
+
+pub high_ends : (xs : List ℕ) → AllHigh xs → HasNoEnd xs
+high_ends [] h = tt
+high_ends (x ∷ xs) h = ((high x h.0).3, high_ends xs h.1)
 
 -- a field of such bytes, from its start
 field : (fields : List (List ℕ)) (b : ℕ) (bs tail : List ℕ) → AllHigh (b ∷ bs)
@@ -66,7 +71,7 @@ digits_high base (b ∷ bs) small h =
 first_digit : (b : ℕ) → nat_lt (digit_value b) 10 ≡ true → b ≤ 57
 first_digit b h = grind (arith, nat_tests)
 
-no_mark : (a : ℕ) (rest : List ℕ) → a ≤ 57 → strip_bom (a ∷ rest) ≡ a ∷ rest
+pub no_mark : (a : ℕ) (rest : List ℕ) → a ≤ 57 → strip_bom (a ∷ rest) ≡ a ∷ rest
 unfolding strip_bom
 no_mark a [] h = refl
 no_mark a (b ∷ []) h = refl

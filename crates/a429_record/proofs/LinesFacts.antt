@@ -1,7 +1,6 @@
 -- A text in pieces, and its lines.
 use Rattle.std.specs.Option.{IfSome, IfNone}
 use Rattle.memchr.specs.Find.{is_byte, Passes, IsFirstByte}
-use Rattle.a429_record.proofs.RowDigits.{not_true}
 use Rattle.std.proofs.Common.{◌≡◌, ◌∙◌, ◌+◌, ◌-◌, ◌<◌, ◌≤◌, ℕ, length, take, drop, get_or, arith, List, [], ◌∷◌, ◌++◌, Option, Some, None, inl, inr, refl, sym, ap, subst, append_assoc, zero, suc, ◌==◌, eqb-true, slice_index}
 use borrow.Rule.Slice.PartMut.{put_mid}
 use Rattle.a429_word.proofs.TallySlices.{take-put_mid_within}
@@ -9,6 +8,7 @@ use Rattle.std.proofs.lemmas.List.{append-nil, length-drop, length-take-le, drop
 use Rattle.std.proofs.Math.Seq.{take-append_seam}
 use Rattle.std.specs.Io.KnownBytes.{Consumes, IsAtEnd, prepend_known}
 use Rattle.std.proofs.KnownBytes.{Consumes-trans}
+use Rattle.std.proofs.lemmas.Bool.{false_from_ne_true}
 use Rattle.a429_record.specs.Ends.{HasNoEnd}
 use Rattle.a429_record.specs.Recording.{recording_lines, with_first}
 use Rattle.a429_record.specs.Handed.{Loses, IsLineHanded}
@@ -23,7 +23,7 @@ none_passes : (bs : List ℕ) (n : ℕ) → ((k : ℕ) → 0 ≤ k → k < n →
 none_passes bs zero h = tt
 none_passes [] (suc n) h = tt
 none_passes (b ∷ bs) (suc n) h =
-    (not_true (b == 10) (h 0 (omega arith) (omega arith)), none_passes bs n (λ k least below. h (suc k) (omega arith) (omega arith)))
+    (false_from_ne_true (b == 10) (h 0 (omega arith) (omega arith)), none_passes bs n (λ k least below. h (suc k) (omega arith) (omega arith)))
 
 pub end_found : (bs : List ℕ) (r : Option ℕ)
     → IsFirstByte (is_byte 10) bs r → IfSome r (λ n. (n < length bs) × HasNoEnd (take n bs) × (slice_index bs n ≡ 10))

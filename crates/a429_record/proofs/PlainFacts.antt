@@ -9,7 +9,7 @@ use Rattle.a429_record.specs.Row.{time_in, bus_in, word_in}
 use Rattle.a429_record.specs.Line.{line_entries}
 use Rattle.a429_record.specs.Plain.{IsFront, IsPlainRow, IsLineEnd}
 use Rattle.a429_record.proofs.RowDigits.{time_in-is}
-use Rattle.a429_record.proofs.LinePlain.{AllHigh, high, digits_high, whole, time_plain, bus_plain, word_plain, plain_line}
+use Rattle.a429_record.proofs.LinePlain.{digits_high, whole, time_plain, bus_plain, word_plain, plain_line, high_ends}
 use Rattle.a429_record.proofs.LinesFacts.{HasNoEnd-append}
 
 -- the first eight of some bytes, one by one
@@ -54,10 +54,6 @@ is_front bytes n time bus least most inside digits number small first second let
     }
 
 -- ---- lines of a plain row
-
-high_ends : (xs : List ℕ) → AllHigh xs → HasNoEnd xs
-high_ends [] h = tt
-high_ends (x ∷ xs) h = ((high x h.0).3, high_ends xs h.1)
 
 pub no_end : (row : List ℕ) (e : Entry) → IsPlainRow row e → HasNoEnd row
 no_end row e h =

@@ -3,7 +3,7 @@ use Rattle.std.proofs.Common.{◌≡◌, ℕ, ◌^◌, ◌<◌, ◌≤◌, arith
 use Rattle.std.specs.Char.{digit_value}
 use Rattle.std.specs.Str.Parse.{digits_value, AllDigits}
 use Rattle.std.specs.List.{list_all}
-use Rattle.std.proofs.lemmas.Bool.{and_parts}
+use Rattle.std.proofs.lemmas.Bool.{and_parts, false_from_ne_true}
 use Rattle.std.proofs.lemmas.Bool.Decides.{nat_tests}
 use Rattle.std.specs.Option.{SomeIff}
 use Rattle.std.proofs.lemmas.Int.Digits.{digits_value-lt, digits_value_more, digits_more}
@@ -28,17 +28,13 @@ all_digits-to base (b ∷ bs) h =
     let (here, more) = and_parts (nat_lt (digit_value b) base) (list_all (λ c. nat_lt (digit_value c) base) bs) h in
     (digit_known base b here, all_digits-to base bs more)
 
-pub not_true : (b : Bool) → (b ≡ true → ⊥) → b ≡ false
-not_true true h = absurd (h refl)
-not_true false h = refl
-
 -- what a test of eight hexadecimal digits gives
 pub word_in-reads : (text : List ℕ) (read : Option ℕ) → ReadsHex text read → read ≡ word_in text
 word_in-reads text (Some w) h =
     let long = eq-eqb (length text) 8 h.0.0 in
     rw (long, all_digits-from 16 text h.0.1) (ap Some h.1)
 word_in-reads text None h =
-    let other = not_true (length text == 8 && all_digits 16 text) (λ e.
+    let other = false_from_ne_true (length text == 8 && all_digits 16 text) (λ e.
     let (long, all) = and_parts (length text == 8) (all_digits 16 text) e in
     h (grind (arith, nat_tests), all_digits-to 16 text all)) in
     rw other refl
@@ -86,7 +82,7 @@ last_false false b c = refl
 
 pub not_all-time_in : (text : List ℕ) → (AllDigits 10 text → ⊥) → None ≡ time_in text
 not_all-time_in text h =
-    let other : all_digits 10 text ≡ false = not_true (all_digits 10 text) (λ e. h (all_digits-to 10 text e)) in
+    let other : all_digits 10 text ≡ false = false_from_ne_true (all_digits 10 text) (λ e. h (all_digits-to 10 text e)) in
     rw (other, third_false (nat_le 1 (length text)) (nat_le (length text) 20) (nat_lt (digits_value 10 text) (2 ^ 64))) refl
 
 pub above-time_in : (text : List ℕ) → 2 ^ 64 ≤ digits_value 10 text → None ≡ time_in text

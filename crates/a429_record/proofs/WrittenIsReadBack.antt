@@ -1,11 +1,9 @@
 -- What is written of entries, read again.
-use Rattle.std.proofs.Common.{◌≡◌, ◌∙◌, ◌/◌, ◌%◌, ◌^◌, ◌<◌, ◌++◌, ℕ, zero, suc, List, [], ◌∷◌, map, length, true, Some, inl, refl, sym, ap, rules, arith, append_assoc}
+use Rattle.std.proofs.Common.{◌≡◌, ◌∙◌, ◌^◌, ◌<◌, ◌++◌, ℕ, List, [], ◌∷◌, map, Some, inl, refl, sym, ap, rules, arith, append_assoc}
 use Rattle.std.specs.Prelude.{codes}
-use Rattle.std.specs.Char.{digit_value}
-use Rattle.std.specs.Fmt.{decimal, digit_glyph}
+use Rattle.std.specs.Fmt.{decimal}
 use Rattle.std.specs.List.{flat_map}
-use Rattle.std.specs.Str.Parse.{digits_value, AllDigits}
-use Rattle.std.proofs.lemmas.Bool.Decides.{nat_tests}
+use Rattle.std.specs.Str.Parse.{digits_value}
 use Rattle.std.proofs.lemmas.Fmt.{decimal_is_IsNumeral, decimal_nonempty, length-decimal-le}
 use Rattle.std.proofs.lemmas.List.{append-nil, map-append}
 use Rattle.csv.proofs.OnLiterals.{csv_on_literals}
@@ -13,7 +11,7 @@ use Rattle.a429_word.specs.declared.bus.Bus.{Bus}
 use Rattle.a429_word.specs.declared.bus.Bus.TheVariants.{A, B}
 use Rattle.a429_word.specs.Digits.{numeral, hex_text, ReadsHex}
 use Rattle.a429_word.specs.Bus.{bus_text}
-use Rattle.a429_word.proofs.DigitsFacts.{hex_text-read}
+use Rattle.a429_word.proofs.DigitsFacts.{hex_text-read, AllDigits-numeral, length-hex_text}
 use Rattle.a429_record.specs.declared.entry.Entry.{Entry}
 use Rattle.a429_record.specs.Ends.{HasNoEnd}
 use Rattle.a429_record.specs.Row.{Row, time_in, bus_in, word_in, entry_in, line_rows}
@@ -22,7 +20,7 @@ use Rattle.a429_record.specs.Recording.{recording_lines, rows_of, stands_for, wh
 use Rattle.a429_record.specs.WholeRecordings.{AreEntries}
 use Rattle.a429_record.specs.Writing.{line_text, written_form}
 use Rattle.a429_record.proofs.RowDigits.{time_in-is, word_in-reads}
-use Rattle.a429_record.proofs.LinePlain.{AllHigh, high, plain_line}
+use Rattle.a429_record.proofs.LinePlain.{plain_line, high_ends}
 use Rattle.a429_record.proofs.LinesFacts.{HasNoEnd-append, lines_of-ended}
 use Rattle.a429_record.proofs.WritingFacts.{AllHigh-decimal, AllHigh-bus, AllHigh-numeral}
 use Rattle.a429_record.proofs.WholeRecordings.{text-whole}
@@ -38,18 +36,6 @@ time-back n h =
 bus-back : (b : Bus) → bus_in (bus_text b) ≡ Some b
 bus-back A = refl
 bus-back B = refl
-
-glyph-back : (d : ℕ) → d < 16 → digit_value (digit_glyph true d) < 16
-glyph-back d h = grind (arith, nat_tests)
-
-AllDigits-numeral : (k w : ℕ) → AllDigits 16 (numeral 16 k w)
-unfolding numeral
-AllDigits-numeral zero w = tt
-AllDigits-numeral (suc k) w = (glyph-back (w / 16 ^ k % 16) (omega arith), AllDigits-numeral k w)
-
-length-hex_text : (w : ℕ) → length (hex_text w) ≡ 8
-unfolding numeral
-length-hex_text w = omega arith
 
 pub word-back : (w : ℕ) → w < 2 ^ 32 → word_in (hex_text w) ≡ Some w
 word-back w h =
@@ -67,16 +53,12 @@ entry-back e ht hw = rw (time-back e.time ht, bus-back e.bus, word-back e.word h
 abbrev pub body : Entry → List ℕ
 body e = decimal e.time ++ (44 ∷ (bus_text e.bus ++ (44 ∷ (hex_text e.word ++ []))))
 
-no_end : (xs : List ℕ) → AllHigh xs → HasNoEnd xs
-no_end [] h = tt
-no_end (b ∷ bs) h = ((high b h.0).3, no_end bs h.1)
-
 pub body-end : (e : Entry) → e.time < 2 ^ 64 → HasNoEnd (body e)
 body-end e h =
-    let word : HasNoEnd (hex_text e.word ++ []) = rw append-nil (no_end (hex_text e.word) (AllHigh-numeral 8 e.word)) in
+    let word : HasNoEnd (hex_text e.word ++ []) = rw append-nil (high_ends (hex_text e.word) (AllHigh-numeral 8 e.word)) in
     HasNoEnd-append (decimal e.time) (44 ∷ (bus_text e.bus ++ (44 ∷ (hex_text e.word ++ []))))
-    (no_end (decimal e.time) (AllHigh-decimal e.time h))
-    (refl, HasNoEnd-append (bus_text e.bus) (44 ∷ (hex_text e.word ++ [])) (no_end (bus_text e.bus) (AllHigh-bus e.bus)) (refl, word))
+    (high_ends (decimal e.time) (AllHigh-decimal e.time h))
+    (refl, HasNoEnd-append (bus_text e.bus) (44 ∷ (hex_text e.word ++ [])) (high_ends (bus_text e.bus) (AllHigh-bus e.bus)) (refl, word))
 
 pub line-is : (e : Entry) (rest : List ℕ) → line_text e ++ rest ≡ body e ++ (10 ∷ rest)
 line-is e rest = simp (append_assoc, append-nil)
@@ -99,7 +81,7 @@ header-rows : line_rows (codes "time,bus,word") ≡ header_row ∷ []
 unfolding csv_on_literals
 header-rows = refl
 
-header-end : HasNoEnd (codes "time,bus,word")
+pub header-end : HasNoEnd (codes "time,bus,word")
 header-end = search rules
 
 rows-header : (rest : List ℕ) → rows_of (codes "time,bus,word\n" ++ rest) ≡ header_row ∷ rows_of rest

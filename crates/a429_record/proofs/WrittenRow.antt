@@ -8,8 +8,9 @@ use Rattle.std.proofs.lemmas.Str.Parse.{numerals_by_value, tells_digits}
 use Rattle.std.proofs.lemmas.List.{length-take-le, take_more}
 use Rattle.a429_word.specs.declared.bus.Bus.{Bus}
 use Rattle.a429_word.specs.declared.bus.Bus.TheVariants.{A, B}
-use Rattle.a429_word.specs.Digits.{numeral, hex_text}
+use Rattle.a429_word.specs.Digits.{hex_text}
 use Rattle.a429_word.specs.Bus.{bus_text}
+use Rattle.a429_word.proofs.DigitsFacts.{length-hex_text}
 use Rattle.a429_record.specs.declared.entry.Entry.{Entry}
 use Rattle.a429_record.specs.Row.{time_in, bus_in, word_in}
 use Rattle.a429_record.specs.Plain.{IsFront, IsPlainRow}
@@ -100,10 +101,6 @@ written_line bytes word n e more inside h hex own =
       first_taken (suc n) [] some = refl
       first_taken (suc n) (x ∷ xs) some = refl
 
-length_hex : (w : ℕ) → length (hex_text w) ≡ 8
-unfolding numeral
-length_hex w = refl
-
 pub line_length : (e : Entry) → e.time < 2 ^ 64 → length (line_text e) ≤ 32
 line_length e small =
     let time : length (decimal e.time) ≤ 20 = length-decimal-le 20 e.time (omega arith) (omega arith) small in
@@ -113,7 +110,7 @@ line_length e small =
       ap length is,
       time,
       bus_length e.bus,
-      length_hex e.word,
+      length-hex_text e.word,
       length-append (decimal e.time) (44 ∷ (bus_text e.bus ++ (44 ∷ (hex_text e.word ++ (10 ∷ []))))),
       length-append (bus_text e.bus) (44 ∷ (hex_text e.word ++ (10 ∷ []))),
       length-append (hex_text e.word) (10 ∷ []),

@@ -1,5 +1,5 @@
 -- Certificates of both directions explain a duplex run.
-use Rattle.std.proofs.Common.{◌≡◌, ℕ, Bool, true, false, cond, List, [], ◌∷◌, map, refl, sym, ap, ◌∙◌, subst}
+use Rattle.std.proofs.Common.{◌≡◌, ℕ, Bool, cond, List, [], ◌∷◌, map, refl, sym, ap, ◌∙◌}
 use Rattle.a429_word.specs.declared.bus.Bus.{Bus}
 use Rattle.a429_word.specs.declared.bus.Bus.TheVariants as bus
 use Rattle.a429_profile.specs.Profile.{Contents}
@@ -7,14 +7,14 @@ use Rattle.a429_profile.specs.declared.codes.Codes.{Codes}
 use Rattle.a429_ldu.specs.Form.{Fields, fields_of, is_free}
 use Rattle.a429_link.specs.declared.file.FileBytes.{FileBytes}
 use Rattle.a429_link.specs.declared.seen.Seen.{Seen}
-use Rattle.a429_link.specs.Run.{RunOf, delivered, trace}
+use Rattle.a429_link.specs.Run.{RunOf, trace}
 use Rattle.a429_record.specs.declared.entry.Entry.{Entry}
-use Rattle.a429_cert.specs.Explained.{IsExplained, items_of}
+use Rattle.a429_cert.specs.Explained.{items_of}
 use Rattle.a429_cert.proofs.ExplainedFacts.{in_every_run, in_some_run}
 use Rattle.a429_side.specs.BothSides.{AreDuplexFiles, IsSideExplained, on}
 use Rattle.a429_ldu.specs.Across.{mirrored}
 use Rattle.a429_side.specs.Direction.{AreApart, IsMirror, all_turned, belongs, is_named, turned, view}
-use Rattle.a429_side.specs.Duplex.{DuplexRun, IsInterleaved, both_trace, firsts, seconds}
+use Rattle.a429_side.specs.Duplex.{firsts, seconds}
 use Rattle.a429_side.specs.Side.{side_of}
 use Rattle.a429_side.proofs.DirectionFacts.{apart, named_alike}
 use Rattle.a429_side.proofs.DuplexFacts.{interleaved, views}

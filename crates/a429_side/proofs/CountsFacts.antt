@@ -1,5 +1,5 @@
 -- Counts of what becomes of entries, one more at a time, and their lines.
-use Rattle.std.proofs.Common.{◌≡◌, ◌≢◌, ◌⊎◌, ℕ, zero, suc, ◌+◌, ◌-◌, ◌^◌, ◌<◌, ◌≤◌, ◌==◌, min, Bool, true, false, cond, List, [], ◌∷◌, ◌++◌, length, length-append, append-nil, get_or, set, drop, take, inl, inr, codes, Option, Some, None, refl, sym, ap, ◌∙◌, subst, arith}
+use Rattle.std.proofs.Common.{◌≡◌, ◌≢◌, ◌⊎◌, ℕ, suc, ◌+◌, ◌-◌, ◌^◌, ◌<◌, ◌≤◌, ◌==◌, min, Bool, true, false, List, [], ◌∷◌, ◌++◌, length, length-append, append-nil, get_or, set, drop, take, inl, inr, codes, refl, sym, ap, ◌∙◌, subst, arith}
 use Rattle.std.specs.Prelude.{filter}
 use Rattle.std.specs.Fmt.{decimal}
 use Rattle.std.proofs.lemmas.Bool.{cases_Bool}
@@ -8,10 +8,10 @@ use Rattle.std.proofs.lemmas.List.{get_or-set_same, get_or-set_other, length-set
 use Rattle.std.proofs.lemmas.List.Elements.{filter-append}
 use Rattle.a429_word.specs.Digits.{hex_text, numeral}
 use Rattle.a429_side.specs.declared.lot.Lot.{Lot}
-use Rattle.a429_side.specs.declared.lot.Lot.TheVariants.{Elsewhere, Kept, OfNone, OfOther, Renamed}
+use Rattle.a429_side.specs.declared.lot.Lot.TheVariants.{Elsewhere}
 use Rattle.a429_side.specs.declared.counts.Counts.{Counts}
 use Rattle.a429_side.specs.declared.counts.DestinationCount.{DestinationCount}
-use Rattle.a429_side.specs.Counts.{AreCounts, AreDestinations, IsDestinationCount, destination_line, destination_lines, hex_pair, is_a_request, is_at, is_of_none, is_of_other, is_renamed, is_written, no_words, renamed_line, count_line}
+use Rattle.a429_side.specs.Counts.{AreCounts, AreDestinations, IsDestinationCount, destination_line, destination_lines, hex_pair, is_a_request, is_at, is_of_none, is_of_other, is_renamed, is_written, no_words}
 
 -- ---- one more, filtered
 

@@ -1,22 +1,19 @@
 -- Which direction a word belongs to, by its type and its code.
-use Rattle.std.proofs.Common.{◌≡◌, ℕ, Bool, true, false, not, cond, ◌&&◌, ◌||◌, nat_eq, Option, Some, None, refl, sym, ap, ◌∙◌, eq-eqb}
-use Rattle.std.proofs.lemmas.Bool.{ne_eqb}
-use Rattle.a429_word.specs.Word.{number_at}
+use Rattle.std.proofs.Common.{◌≡◌, ℕ, Bool, true, false, cond, Option, Some, None, refl, sym, ap, ◌∙◌}
 use Rattle.a429_word.specs.declared.bus.Bus.{Bus}
 use Rattle.a429_word.specs.declared.bus.Bus.TheVariants as bus
 use Rattle.a429_profile.specs.declared.codes.Codes.{Codes}
 use Rattle.a429_profile.specs.Profile.{Contents, IsProfile}
 use Rattle.a429_ldu.specs.declared.forms.Form.{Form}
 use Rattle.a429_ldu.specs.declared.sight.Sight.TheVariants as sight
-use Rattle.a429_ldu.specs.Form.{fields_of, form_of, is_free}
+use Rattle.a429_ldu.specs.Form.{form_of, is_free}
 use Rattle.a429_ldu.specs.Sight.{form_in, sight_in, sight_of}
 use Rattle.a429_ldu.proofs.SightFacts.{form_of-sight}
 use Rattle.a429_link.specs.declared.seen.Seen.{Seen}
 use Rattle.a429_side.specs.declared.direction.Direction.{Direction}
 use Rattle.a429_side.specs.declared.direction.Direction.TheVariants.{Free, Neither, Other, This}
 use Rattle.a429_ldu.specs.Across.{mirrored, other_line}
-use Rattle.a429_side.specs.Direction.{IsMirror, belongs, direction_in, is_named, turned}
-use Rattle.a429_side.specs.Destination.{destination_at, is_line_a}
+use Rattle.a429_side.specs.Direction.{IsMirror, direction_in, turned}
 use Rattle.a429_side.proofs.DirectionFacts.{apart, form_belongs, free_belongs}
 
 -- ---- the direction, by tests

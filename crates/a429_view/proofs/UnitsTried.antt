@@ -1,5 +1,5 @@
 -- What was put of rows that were given reports, whether they took them or failed at them.
-use Rattle.std.proofs.Common.{◌≡◌, ◌++◌, ◌∷◌, ◌∙◌, ℕ, List, [], Option, refl, sym, ap, subst}
+use Rattle.std.proofs.Common.{◌++◌, ◌∷◌, ◌∙◌, ℕ, List, [], Option, refl, sym, ap, subst}
 use Rattle.std.specs.List.{FoldsTo, flat_map}
 use Rattle.std.proofs.lemmas.List.{append-nil}
 use Rattle.std.proofs.lemmas.Grind.{flat_map-append}

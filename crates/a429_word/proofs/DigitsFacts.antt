@@ -75,11 +75,15 @@ octal_text-is n =
 
 -- ---- written and read
 
-digit_value-digit_glyph : (d : ℕ) → d < 16 → digit_value (digit_glyph true d) ≡ d
+pub digit_value-digit_glyph : (d : ℕ) → d < 16 → digit_value (digit_glyph true d) ≡ d
 digit_value-digit_glyph d h = grind (arith, nat_tests)
 
+pub length-hex_text : (w : ℕ) → length (hex_text w) ≡ 8
+unfolding numeral
+length-hex_text w = refl
+
 -- each digit of a numeral is one
-AllDigits-numeral : (k w : ℕ) → AllDigits 16 (numeral 16 k w)
+pub AllDigits-numeral : (k w : ℕ) → AllDigits 16 (numeral 16 k w)
 unfolding numeral
 AllDigits-numeral zero w = tt
 AllDigits-numeral (suc k) w =

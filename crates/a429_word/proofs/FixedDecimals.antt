@@ -8,10 +8,10 @@ use Rattle.std.proofs.lemmas.Fmt.{decimal_digit, decimal_step_wide, decimal_by_s
 use Rattle.std.proofs.lemmas.Int.Digits.{digits_push, digits_value_push}
 use Rattle.std.proofs.lemmas.List.{drop-drop}
 use Rattle.std.proofs.lemmas.Nat.{mod-mul-add, div-add-mod', pow-add}
-use Rattle.std.proofs.Math.Nat.{pow-succ', div-div-eq-div-mul, pow-le-pow_right}
+use Rattle.std.proofs.Math.Nat.{pow-succ', div-div-eq-div-mul}
 use Rattle.a429_word.specs.Digits.{numeral}
 use Rattle.a429_word.specs.Fixed.{IsWholePart, EndsWell}
-use Rattle.a429_word.proofs.Powers.{pow-10_pos}
+use Rattle.a429_word.proofs.Powers.{pow-10_pos, tens_le}
 use Rattle.a429_word.proofs.DigitsFacts.{digit_glyph-low}
 
 -- ---- as many digits as are asked for
@@ -100,9 +100,6 @@ digits_value-numeral_after xs zero n = rw (numeral-empty n, append-nil) (omega a
 digits_value-numeral_after xs (suc k) n =
     rw (numeral-last k n, ← append_assoc xs (numeral 10 k (n / 10)) ((48 + n % 10) ∷ []))
     (digits_value-push (xs ++ numeral 10 k (n / 10)) n ∙ rw (digits_value-numeral_after xs k (n / 10), mod-next k n, pow-suc) (omega arith))
-
-tens_le : (k : ℕ) → k ≤ 18 → 10 ^ k ≤ 10 ^ 18
-tens_le k h = pow-le-pow_right (omega arith) h
 
 -- a 1 before the digits keeps the zeros that they begin with
 pub one_before : (k n : ℕ) → k ≤ 18 → decimal (10 ^ k + n % 10 ^ k) ≡ 49 ∷ numeral 10 k n

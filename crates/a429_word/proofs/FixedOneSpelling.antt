@@ -14,24 +14,25 @@ use Rattle.a429_word.specs.Fixed.{with_point, sign_text, IsWholePart, EndsWell, 
 same_digit : (c d : ℕ) → digit_value c < 10 → digit_value c ≡ digit_value d → c ≡ d
 same_digit c d h e = grind (arith, nat_tests)
 
+-- digits after others
+pub value_after-append : (a : ℕ) (xs ys : List ℕ) → digits_value_after 10 a (xs ++ ys) ≡ digits_value_after 10 (digits_value_after 10 a xs) ys
+value_after-append a [] ys = refl
+value_after-append a (x ∷ xs) ys = value_after-append (a * 10 + digit_value x) xs ys
+
 -- the value behind a first part
-value_after : (a : ℕ) (xs : List ℕ) → digits_value_after 10 a xs ≡ a * 10 ^ length xs + digits_value 10 xs
+pub value_after : (a : ℕ) (xs : List ℕ) → digits_value_after 10 a xs ≡ a * 10 ^ length xs + digits_value 10 xs
 value_after a [] = omega arith
 value_after a (x ∷ xs) =
     let p = 10 ^ length xs in
     value_after (a * 10 + digit_value x) xs ∙ rw (value_after (0 * 10 + digit_value x) xs, pow-suc) (omega arith)
 
 -- the first digit apart
-value-cons : (x : ℕ) (xs : List ℕ) → digits_value 10 (x ∷ xs) ≡ digit_value x * 10 ^ length xs + digits_value 10 xs
+pub value-cons : (x : ℕ) (xs : List ℕ) → digits_value 10 (x ∷ xs) ≡ digit_value x * 10 ^ length xs + digits_value 10 xs
 value-cons x xs = value_after (0 * 10 + digit_value x) xs ∙ omega arith
 
 -- two runs of digits
-value-append : (xs ys : List ℕ) → digits_value 10 (xs ++ ys) ≡ digits_value 10 xs * 10 ^ length ys + digits_value 10 ys
-value-append xs ys = split 0 xs ys ∙ value_after (digits_value 10 xs) ys
-  where
-    split : (a : ℕ) (us vs : List ℕ) → digits_value_after 10 a (us ++ vs) ≡ digits_value_after 10 (digits_value_after 10 a us) vs
-    split a [] vs = refl
-    split a (u ∷ us) vs = split (a * 10 + digit_value u) us vs
+pub value-append : (xs ys : List ℕ) → digits_value 10 (xs ++ ys) ≡ digits_value 10 xs * 10 ^ length ys + digits_value 10 ys
+value-append xs ys = value_after-append 0 xs ys ∙ value_after (digits_value 10 xs) ys
 
 -- digits of one length with one value are the same
 same_digits : (xs ys : List ℕ)
@@ -89,7 +90,7 @@ ends xs (c ∷ d ∷ cs) h e k z =
     ends (xs ++ c ∷ []) (d ∷ cs) (rw same h) e (omega arith) (rw same z)
 
 -- a factor is dropped
-cancel : (a b k : ℕ) → 0 < k → a * k ≡ b * k → a ≡ b
+pub cancel : (a b k : ℕ) → 0 < k → a * k ≡ b * k → a ≡ b
 cancel a b k h e = sym (mul-div_cancel a h) ∙ ap (λ n. n / k) e ∙ mul-div_cancel b h
 
 -- decimals that end well are no longer than others of the same value

@@ -3,13 +3,11 @@ use Rattle.std.proofs.Common.{◌≡◌, ◌≢◌, ℕ, zero, suc, ◌+◌, ◌
 use Rattle.std.specs.Int.{bit_at, w128}
 use Rattle.std.specs.Int.Count.{count_trailing_zeros, trailing_of_zero}
 use Rattle.std.proofs.lemmas.Nat.Bits.{bit_at-trailing_zeros}
-use Rattle.std.proofs.lemmas.Nat.{mod-pow-add, div-add-mod', mul-pow, mul-le, div-mul-add, mod_below}
-use Rattle.std.proofs.Math.Nat.{zero-mod, pow-le-pow_right, mod-eq-sub-div-mul}
+use Rattle.std.proofs.lemmas.Nat.{mod-pow-add, div-add-mod', mul-pow, div-mul-add, mod_below}
+use Rattle.std.proofs.Math.Nat.{zero-mod, mod-eq-sub-div-mul}
+use Rattle.a429_word.proofs.Powers.{tens_le}
 
 -- ---- powers of ten
-
-tens_le : (k : ℕ) → k ≤ 18 → 10 ^ k ≤ 10 ^ 18
-tens_le k h = pow-le-pow_right (omega arith) h
 
 -- 5 ^ k shifted by k
 pub tens_shifted : (k five : ℕ) → k ≤ 18 → five ≡ 5 ^ k → five * 2 ^ k % 18446744073709551616 ≡ 10 ^ k

@@ -15,12 +15,12 @@ pub record HasParts (w l d f s : ℕ) : Type 0 where
   pub parity : HasOddParity w
 
 -- a reversed byte is a byte
-reversed-lt : (n : ℕ) → reverse_bits_onto 8 n 0 < 256
+pub reversed-lt : (n : ℕ) → reverse_bits_onto 8 n 0 < 256
 unfolding reverse_bits_onto
 reversed-lt n = omega arith
 
 -- bits below the others are added
-or_below : (m a k b : ℕ) → m ≡ a * 2 ^ k → b < 2 ^ k → bit_or m b ≡ m + b
+pub or_below : (m a k b : ℕ) → m ≡ a * 2 ^ k → b < 2 ^ k → bit_or m b ≡ m + b
 or_below m a k b e h = rw e (or_shifted a k b h)
 
 -- the parts below the parity bit, side by side

@@ -1,9 +1,10 @@
 use Rattle.std.proofs.Common.{◌+◌, ◌<◌, ◌^◌, ◌∷◌, ◌++◌, [], length, length-append, sym, subst, arith, ℕ, List}
+use Rattle.std.proofs.lemmas.Bool.{false_from_ne_true}
 use Rattle.a429_word.specs.Tally.{unread}
 use Rattle.a429_word.proofs.SheetFacts.{◌▹◌}
 use Rattle.a429_record.specs.Handed.{IsLineHanded, Loses}
 use Rattle.a429_record.specs.Lines.{pending_of}
-use Rattle.a429_import.proofs.ImportFacts.{err_then, gave_all, gave_more, gave_no_header, gave_these, lots_text-more, ok_then, still_works, stops_at}
+use Rattle.a429_import.proofs.ImportFacts.{err_then, gave_all, gave_more, gave_no_header, gave_these, lots_text-more, ok_then, stops_at}
 use Rattle.a429_import.proofs.import.put_import.Goals as goal
 
 pub returns-then-not-more-clause-all : goal.returns-then-not-more-clause-all
@@ -81,5 +82,5 @@ lines-preserved g c =
       gave = gave_more m bytes left new i.lots c.lines.progress c.turn.new.self c.as_slice.result.now l i.gave lost answers after;
       few = omega (arith, i.few, less, one);
       count = rw after (omega (arith, i.count, one));
-      works = still_works _ (λ e. cc (c.in-Ok-next_line.ensures.device.1 e));
+      works = false_from_ne_true _ (λ e. cc (c.in-Ok-next_line.ensures.device.1 e));
     }

@@ -1,4 +1,4 @@
-use Rattle.std.proofs.Common.{sym, ap, ◌∙◌, subst}
+use Rattle.std.proofs.Common.{sym, ap, ◌∙◌}
 use Rattle.a429_word.specs.declared.bus.Bus.{Bus}
 use Rattle.a429_profile.specs.declared.codes.Codes.{Codes}
 use Rattle.a429_ldu.specs.Across.{other_line, with_destination}

@@ -1,4 +1,4 @@
-use Rattle.std.proofs.Common.{rules, Some, None, sym, ap, ◌∙◌}
+use Rattle.std.proofs.Common.{rules, None, sym, ap, ◌∙◌}
 use Rattle.a429_ldu.specs.declared.sight.Sight.TheVariants as sight
 use Rattle.a429_ldu.specs.Sight.{sight_of}
 use Rattle.a429_ldu.proofs.SightFacts.{seen_full_a, seen_full_b, seen_form, seen_free, seen_told, ignored_free}

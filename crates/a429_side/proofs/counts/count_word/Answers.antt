@@ -1,4 +1,4 @@
-use Rattle.std.proofs.Common.{get_or, refl, subst, sym}
+use Rattle.std.proofs.Common.{get_or, refl}
 use Rattle.std.specs.Prelude.{filter}
 use Rattle.a429_side.specs.declared.lot.Lot.TheVariants.{Elsewhere}
 use Rattle.a429_side.specs.Counts.{IsDestinationCount, is_at, no_words}

@@ -1,6 +1,5 @@
-use Rattle.std.proofs.Common.{◌≡◌, ◌∙◌, ap, false, subst, sym}
+use Rattle.std.proofs.Common.{◌∙◌, ap, sym}
 use Rattle.a429_ldu.specs.Form.{is_free}
-use Rattle.a429_side.specs.Direction.{direction_in}
 use Rattle.a429_side.proofs.NamedFacts.{sees_form, sees_free, sees_no_form}
 use Rattle.a429_side.proofs.direction.direction_of.Goals as goal
 

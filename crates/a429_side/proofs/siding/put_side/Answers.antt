@@ -1,4 +1,4 @@
-use Rattle.std.proofs.Common.{◌≡◌, ◌∙◌, ◌+◌, ◌<◌, ◌^◌, ◌∷◌, ◌++◌, [], ap, arith, length, length-append, refl, subst, sym, true≢false}
+use Rattle.std.proofs.Common.{◌≡◌, ◌∙◌, ◌+◌, ◌<◌, ◌^◌, ◌∷◌, ◌++◌, [], ap, arith, length, length-append, subst, sym, true≢false}
 use Rattle.std.proofs.lemmas.Result.{err_from_is_err_and}
 use Rattle.a429_word.proofs.SheetFacts.{◌▹◌, says_nothing}
 use Rattle.a429_parts.proofs.KeepingFacts.{gave_all, gave_first, gave_more, gave_these, gave_until}

@@ -1,4 +1,4 @@
-use Rattle.std.proofs.Common.{◌≡◌, ◌∙◌, ◌∷◌, List, ℕ, Bool, Some, Vec, [], append-nil, ap, arith, cond, length, refl, slice_get, subst, sym, take}
+use Rattle.std.proofs.Common.{◌≡◌, ◌∙◌, ◌∷◌, List, ℕ, Bool, Some, [], append-nil, ap, arith, cond, length, refl, slice_get, subst, sym}
 use Rattle.std.proofs.lemmas.Option.{slice_get_read}
 use Rattle.a429_link.specs.WholeBlock.{data_words}
 use Rattle.a429_contradiction.specs.Rival.{Asked}

@@ -1,4 +1,4 @@
-use Rattle.std.proofs.Common.{rules, ℕ, List, [], ◌++◌, subst}
+use Rattle.std.proofs.Common.{rules, ℕ, List, [], subst}
 use Rattle.std.proofs.lemmas.List.{append-nil}
 use Rattle.a429_view.specs.UnitSteps.{line_before, PutsInPart}
 use Rattle.a429_view.proofs.UnitsTried.{part_both}
