@@ -2,6 +2,7 @@
 use Rattle.std.proofs.Common.{◌≡◌, ℕ, zero, suc, ◌+◌, ◌≤◌, List, [], ◌∷◌, ◌++◌, map, take, drop, length, Option, Some, None, option_map, slice_get, refl, sym, ap, ◌∙◌, subst, arith, append-nil}
 use Rattle.std.proofs.lemmas.Option.{slice_get_within}
 use Rattle.std.proofs.lemmas.List.{take_all, drop-drop}
+use Rattle.a429_word.proofs.ListFacts.{next_item, none_past}
 use Rattle.a429_profile.specs.Profile.{Contents, IsProfile}
 use Rattle.a429_link.specs.declared.file.FileBytes.{FileBytes}
 use Rattle.a429_link.specs.declared.seen.Seen.{Seen}
@@ -9,7 +10,6 @@ use Rattle.a429_link.specs.declared.step.Step.{Step}
 use Rattle.a429_link.specs.Step.{Can, after, label}
 use Rattle.a429_link.specs.State.{start, State}
 use Rattle.a429_link.specs.Run.{IsRun, end_of, with_label, trace, delivered, offered, settled, IsSubsequenceOf}
-use Rattle.a429_link.proofs.Contradictions.{next_item}
 use Rattle.a429_link.proofs.MessageRead.{is_read}
 use Rattle.a429_link.proofs.SinkFromTrace.{same_delivered}
 use Rattle.a429_link.proofs.RunCrossing.{delivered_subsequence, settled_subsequence}
@@ -38,11 +38,6 @@ drop_get [] zero = refl
 drop_get [] (suc k) = refl
 drop_get (x ∷ xs) zero = refl
 drop_get (x ∷ xs) (suc k) = drop_get xs k
-
-pub none_past : {X : Type 0} (xs : List X) (k : ℕ) → slice_get xs k ≡ None → length xs ≤ k
-none_past [] k e = omega arith
-none_past (x ∷ xs) zero e = absurd (cc e)
-none_past (x ∷ xs) (suc k) e = let more = none_past xs k e in omega arith
 
 -- ---- runs
 

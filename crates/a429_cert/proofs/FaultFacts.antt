@@ -1,6 +1,7 @@
 -- The first fault of a certificate, where its lines are taken one after the other.
-use Rattle.std.proofs.Common.{◌≡◌, ◌≢◌, inr, ℕ, zero, suc, ◌+◌, ◌≤◌, ◌<◌, List, [], ◌∷◌, take, drop, length, Option, Some, None, IsSome, option_map, option_and_then, ok_or, Result, IfErr, slice_get, refl, sym, ap, ◌∙◌, subst, arith}
+use Rattle.std.proofs.Common.{◌≡◌, ◌≢◌, inr, ℕ, ◌+◌, ◌≤◌, ◌<◌, List, take, drop, length, Option, Some, None, IsSome, option_map, option_and_then, ok_or, Result, IfErr, slice_get, refl, sym, ap, ◌∙◌, subst, arith}
 use Rattle.std.proofs.lemmas.List.{drop-drop}
+use Rattle.a429_word.proofs.ListFacts.{some_within}
 use Rattle.a429_profile.specs.Profile.{Contents}
 use Rattle.a429_link.specs.declared.seen.Seen.{Seen}
 use Rattle.a429_link.specs.State.{State}
@@ -74,11 +75,6 @@ head f text mid left_after r q v first byte g e l named g' e' l' w =
     }
 
 -- ---- faults
-
-some_within : {X : Type 0} (xs : List X) (k : ℕ) → k < length xs → (x : X) × (slice_get xs k ≡ Some x)
-some_within [] k l = absurd (omega arith)
-some_within (x ∷ xs) zero l = (x, refl)
-some_within (x ∷ xs) (suc k) l = some_within xs k (omega arith)
 
 no_version : (p : Contents) (s : State) (next : Option Seen) (n i : ℕ) (o : Option (Option (List ℕ)))
     → IsFaultAt p s (at_line n i next) o of.Version → ⊥

@@ -2,6 +2,7 @@
 use Rattle.std.proofs.Common.{◌≡◌, ◌≢◌, ◌≤◌, ◌+◌, ◌∙◌, ◌++◌, ◌∷◌, ℕ, suc, List, [], length, take, drop, true, false, Option, Some, None, slice_get, Result, Ok, Err, IfErr, IsErrOf, refl, sym, ap, subst, arith}
 use Rattle.std.specs.List.{FoldsTo}
 use Rattle.std.proofs.lemmas.List.{length-take-le}
+use Rattle.a429_word.proofs.ListFacts.{none_past}
 use Rattle.a429_profile.specs.Profile.{Contents}
 use Rattle.a429_link.specs.declared.file.FileBytes.{FileBytes}
 use Rattle.a429_ldu.specs.Ldu.{LduValue}
@@ -43,7 +44,7 @@ use Rattle.a429_cert.specs.Report.{listening, position, Report, Loads, Makes, wi
 use Rattle.a429_cert.proofs.Options.{some_is}
 use Rattle.a429_cert.proofs.ReadingFacts.{one-line}
 use Rattle.a429_cert.proofs.StreamFacts.{refused_next}
-use Rattle.a429_cert.proofs.ExplainedFacts.{drop_get, none_past, none_read, passes_on, explains_all}
+use Rattle.a429_cert.proofs.ExplainedFacts.{drop_get, none_read, passes_on, explains_all}
 use Rattle.a429_cert.proofs.StreamStands.{Stands, says_back, next_at, line_cut, text_back}
 use Rattle.a429_cert.proofs.EarlierFiles.{text_earlier}
 use Rattle.a429_cert.proofs.StreamReplay.{none_next}

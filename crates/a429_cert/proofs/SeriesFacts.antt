@@ -2,6 +2,7 @@
 use Rattle.std.proofs.Common.{◌≡◌, ◌≢◌, ◌⊎◌, ◌≤◌, ◌+◌, ◌-◌, ◌%◌, ◌∙◌, ◌++◌, ◌∷◌, inl, inr, ℕ, zero, suc, List, [], length, take, drop, Bool, true, false, nat_le, if◌then◌else◌, Option, Some, None, option_map, slice_get, Ok, Err, refl, sym, ap, subst, arith}
 use Rattle.std.proofs.lemmas.Bool.{le-leb, leb-true}
 use Rattle.std.proofs.lemmas.List.{length-map, take_all}
+use Rattle.a429_word.proofs.ListFacts.{none_past}
 use Rattle.a429_profile.specs.Profile.{Contents}
 use Rattle.a429_link.specs.declared.file.FileBytes.{FileBytes}
 use Rattle.a429_link.specs.declared.state.SourceState.{SourceState}
@@ -37,7 +38,7 @@ use Rattle.a429_cert.specs.StreamEnd.{EndsLate}
 use Rattle.a429_cert.specs.StreamHead.{RefusesHead, TakesHead}
 use Rattle.a429_cert.specs.StreamExplained.{WhereBothKnown, WantsNext, EndsAt}
 use Rattle.a429_cert.specs.Series.{SeriesValue, IsBetweenParts, begun, allowed, gap, give_ups, Fits, IsPartFault, RefusesPart}
-use Rattle.a429_cert.proofs.ExplainedFacts.{begins_at, none_past, none_read}
+use Rattle.a429_cert.proofs.ExplainedFacts.{begins_at, none_read}
 use Rattle.a429_cert.proofs.EarlierFiles.{given_out}
 use Rattle.a429_cert.proofs.StreamStands.{StandsFrom, goes_from, hands_from, next_at}
 use Rattle.a429_cert.proofs.StreamRefused.{fault_from, left_from, ends_at, wants_line, wants_end}

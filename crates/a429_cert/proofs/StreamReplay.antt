@@ -7,9 +7,10 @@ use Rattle.a429_cert.specs.Explained.{items_of, IsExplained}
 use Rattle.a429_cert.specs.StreamExplained.{IsYes, IsSomeRun, Compared, Extracts, ExtractsOfRun, SaysYes, SaysFilesOfRun}
 use Rattle.a429_cert.specs.Stream.{next_of}
 use Rattle.a429_cert.proofs.Options.{some_is}
-use Rattle.a429_cert.proofs.ExplainedFacts.{drop_get, none_past, none_read, explained, in_some_run, in_every_run}
+use Rattle.a429_cert.proofs.ExplainedFacts.{drop_get, none_read, explained, in_some_run, in_every_run}
 use Rattle.a429_cert.proofs.StreamStands.{AreLeftAfter, next_at}
 use Rattle.std.specs.Io.KnownBytes.{prepend_known}
+use Rattle.a429_word.proofs.ListFacts.{none_past}
 use Rattle.a429_profile.specs.Profile.{Contents}
 use Rattle.a429_link.specs.declared.file.FileBytes.{FileBytes}
 use Rattle.a429_link.specs.State.{State, start}

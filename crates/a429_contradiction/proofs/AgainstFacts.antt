@@ -4,6 +4,7 @@ use Rattle.std.proofs.lemmas.Bool.{and_parts}
 use Rattle.std.proofs.lemmas.List.{take-map}
 use Rattle.a429_word.specs.declared.bus.Bus.{Bus}
 use Rattle.a429_word.specs.declared.bus.Bus.TheVariants as bus
+use Rattle.a429_word.proofs.ListFacts.{next_item}
 use Rattle.a429_profile.specs.Profile.{Contents}
 use Rattle.a429_ldu.specs.declared.forms.Form.{Form}
 use Rattle.a429_ldu.specs.declared.forms.Form.TheVariants.{Rts, Cts, Ack, Nak, Sot, Part, Eot}
@@ -21,7 +22,6 @@ use Rattle.a429_link.specs.Number.{is_number}
 use Rattle.a429_link.specs.Observer.{Observer, at_first, observed, sees, sees_form, sink_of}
 use Rattle.a429_link.specs.Sink.{Number, Sink, SinkPhase, Quiet, OwesClear, Granted, InBlock, OwesAck, OwesNak, MayAnswer, answers, is_same, number_of, takes}
 use Rattle.a429_link.specs.Trace.{sink_at_first, sink_after}
-use Rattle.a429_link.proofs.Contradictions.{next_item}
 use Rattle.a429_link.proofs.ImpliedFacts.{implied_push, implied_sink}
 use Rattle.a429_link.proofs.NumberFacts.{number_from}
 use Rattle.a429_link.proofs.TraceFiles.{observed_sink}

@@ -4,6 +4,7 @@ use Rattle.std.proofs.lemmas.Bool.{and_parts, cases_order}
 use Rattle.std.proofs.lemmas.Option.{slice_get_within}
 use Rattle.a429_word.specs.declared.bus.Bus.{Bus}
 use Rattle.a429_word.specs.declared.bus.Bus.TheVariants as bus
+use Rattle.a429_word.proofs.ListFacts.{next_item}
 use Rattle.a429_profile.specs.Profile.{Contents}
 use Rattle.a429_profile.specs.declared.codes.Codes.{Codes}
 use Rattle.a429_ldu.specs.declared.forms.Form.{Form}
@@ -17,7 +18,7 @@ use Rattle.a429_link.specs.Number.{is_number}
 use Rattle.a429_link.specs.Run.{IsSubsequenceOf}
 use Rattle.a429_link.specs.WholeBlock.{data_words}
 use Rattle.a429_link.proofs.AllData.{data-append}
-use Rattle.a429_link.proofs.Contradictions.{latest_push, next_item}
+use Rattle.a429_link.proofs.Contradictions.{latest_push}
 use Rattle.a429_link.proofs.NumberFacts.{number_from}
 use Rattle.a429_link.proofs.NumberKept.{sub_all}
 use Rattle.a429_link.proofs.Subsequence.{sub_length}

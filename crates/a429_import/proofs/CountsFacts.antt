@@ -1,8 +1,6 @@
 -- Counts of what becomes of lines, one more at a time; and that each line is counted once.
-use Rattle.std.proofs.Common.{◌≡◌, ℕ, suc, ◌+◌, ◌-◌, ◌^◌, ◌<◌, ◌≤◌, min, max, Bool, true, false, if◌then◌else◌, List, [], ◌∷◌, ◌++◌, length, length-append, inl, inr, refl, sym, ap, ◌∙◌, arith}
+use Rattle.std.proofs.Common.{◌≡◌, ℕ, suc, ◌+◌, max, Bool, true, false, if◌then◌else◌, List, [], ◌∷◌, ◌++◌, length, refl, ◌∙◌, arith}
 use Rattle.std.specs.Prelude.{filter}
-use Rattle.std.proofs.lemmas.Bool.{cases_Bool}
-use Rattle.std.proofs.lemmas.List.Elements.{filter-append}
 use Rattle.a429_word.specs.declared.bus.Bus.{Bus}
 use Rattle.a429_word.specs.declared.bus.Bus.TheVariants as bus
 use Rattle.a429_import.specs.declared.counts.Counts.{Counts}
@@ -11,25 +9,6 @@ use Rattle.a429_import.specs.declared.lot.Lot.TheVariants as lot
 use Rattle.a429_import.specs.Counts.{AreCounts, is_empty, is_entry, is_heading, is_line_a, is_line_b, is_of_passed_channel, is_on_a, is_on_b, is_passed_row, is_remark, is_skipped, lift_of, most_lift_of, is_repeated}
 
 -- ---- one more
-
-filter_short : (p : Lot → Bool) (xs : List Lot) → length (filter p xs) ≤ length xs
-filter_short p [] = omega arith
-filter_short p (x ∷ xs) = elim (cases_Bool (p x)) [
-  | inl here ↦ let short = filter_short p xs in rw here (omega (arith, short))
-  | inr passed ↦ let short = filter_short p xs in rw passed (omega (arith, short))
-]
-
--- a counter that is below the largest number counts one more
-one_more : (new old n : ℕ) → new ≡ min (old + 1) (2 ^ 64 - 1) → old ≡ n → n + 1 < 2 ^ 64 → new ≡ n + 1
-one_more new old n e is few = grind arith
-
-pub counted_yes : (p : Lot → Bool) (lots : List Lot) (l : Lot) (new old : ℕ) → p l ≡ true → new ≡ min (old + 1) (2 ^ 64 - 1)
-    → length lots + 1 < 2 ^ 64 → old ≡ length (filter p lots) → new ≡ length (filter p (lots ++ l ∷ []))
-counted_yes p lots l new old e is few h =
-    let short = filter_short p lots in
-    let all : filter p (lots ++ l ∷ []) ≡ filter p lots ++ l ∷ [] = filter-append p lots (l ∷ []) ∙ rw e refl in
-    one_more new old (length (filter p lots)) is h (omega (arith, short, few))
-    ∙ sym (ap length all ∙ length-append (filter p lots) (l ∷ []))
 
 -- the most of some lifts, and one more
 most-last : (lots : List Lot) (l : Lot) → most_lift_of (lots ++ l ∷ []) ≡ max (most_lift_of lots) (lift_of l)

@@ -1,5 +1,5 @@
 -- What the lines of an export gave so far, and the recording of these.
-use Rattle.std.proofs.Common.{◌≡◌, ℕ, List, [], ◌∷◌, ◌++◌, Option, Some, None, Result, Ok, Err, IfOk, IfErr, IfSome, IsSome, refl, sym, ap, ◌∙◌, append_assoc}
+use Rattle.std.proofs.Common.{◌≡◌, ℕ, List, [], ◌∷◌, ◌++◌, Option, Some, None, Ok, Err, IfSome, IsSome, refl, sym, ap, ◌∙◌, append_assoc}
 use Rattle.std.specs.Prelude.{⊤}
 use Rattle.std.specs.List.{flat_map}
 use Rattle.std.specs.Io.KnownBytes.{IsAtEnd}
@@ -138,14 +138,6 @@ lots_text-more lots l =
     ∙ sym (append_assoc header_text (flat_map line_text (entries_of lots)) (flat_map line_text (entry_before l [])))
 
 -- ---- answers
-
-pub ok_then : {A E : Type 0} (r : Result A E) (P Q : A → Type 0) → IfOk r P → ((a : A) → P a → Q a) → IfOk r Q
-ok_then (Ok a) P Q h more = more a h
-ok_then (Err e) P Q h more = tt
-
-pub err_then : {A E : Type 0} (r : Result A E) (P Q : E → Type 0) → IfErr r P → ((e : E) → P e → Q e) → IfErr r Q
-err_then (Ok a) P Q h more = tt
-err_then (Err e) P Q h more = more e h
 
 -- a fault at the next line
 pub stops_at : (m : Map) (bytes old new : Option (List ℕ)) (lots : List Lot) (s : Progress) (line : List ℕ) (f : ImportFault)

@@ -1,13 +1,14 @@
 -- The array `part`, table by table.
-use Rattle.std.proofs.Common.{◌≡◌, ℕ, suc, ◌+◌, ◌<◌, List, [], ◌∷◌, ◌++◌, length, get_or, drop, map, Bool, true, false, ◌&&◌, nat_le, Some, None, is_some, if◌then◌else◌, refl, sym, ap, ◌∙◌, arith}
+use Rattle.std.proofs.Common.{◌≡◌, ℕ, suc, ◌+◌, ◌<◌, List, [], ◌∷◌, ◌++◌, length, get_or, drop, map, Bool, true, false, ◌&&◌, nat_le, Some, None, is_some, if◌then◌else◌, refl, ap, ◌∙◌, arith}
 use Rattle.std.specs.List.{list_all}
-use Rattle.std.proofs.lemmas.List.{drop_more, length-map}
+use Rattle.std.proofs.lemmas.List.{length-map}
 use Rattle.std.proofs.lemmas.List.Folds.{list_all-map}
 use Rattle.toml.specs.Data.{Data, as_array}
 use Rattle.toml.specs.View.{view}
 use Rattle.toml.specs.declared.value.Value.{Value}
 use Rattle.a429_profile.specs.Value.{elements_of, is_table}
 use Rattle.a429_profile.specs.Labels.{table_of}
+use Rattle.a429_profile.proofs.Turns.{next}
 use Rattle.a429_import.specs.declared.key.Key.TheVariants.{Parts}
 use Rattle.a429_import.specs.declared.fault.MapFault.TheVariants.{WrongKind}
 use Rattle.a429_import.specs.declared.part.Part.{Part}
@@ -31,9 +32,6 @@ pub parts_in-tables : (header : Bool) (d : Data) (vs : List Value)
 parts_in-tables header d vs e = rw e (map-tables header vs)
 
 -- ---- a turn further
-
-next : (vs : List Value) (i : ℕ) (v : Value) → i < length vs → v ≡ get_or vs i v → drop i vs ≡ v ∷ drop (i + 1) vs
-next vs i v h e = drop_more vs i v h ∙ ap (λ x. x ∷ drop (i + 1) vs) (sym e)
 
 -- a table without a fault leaves the faults of those after it
 pub tables_fault-next : (header : Bool) (earlier : List Part) (vs : List Value) (i : ℕ) (v : Value) → i < length vs → v ≡ get_or vs i v

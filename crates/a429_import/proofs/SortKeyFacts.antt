@@ -1,5 +1,5 @@
 -- The order of the keys.
-use Rattle.std.proofs.Common.{◌≡◌, ℕ, ◌≤◌, Bool, true, false, refl, ap, ◌∙◌, sym, arith}
+use Rattle.std.proofs.Common.{◌≡◌, ℕ, ◌≤◌, Bool, true, false, refl, ap, ◌∙◌, sym, arith, le_antisymm}
 use Rattle.std.specs.declared.cmp.Ordering.{Ordering}
 use Rattle.std.specs.declared.cmp.Ordering.TheVariants.{Less, Equal, Greater}
 use Rattle.std.specs.Ordering.{bool_cmp, nat_cmp, ordering_then, is_gt}
@@ -63,9 +63,6 @@ bools_between false true h k = absurd (cc k)
 bools_between true false h k = absurd (cc h)
 bools_between true true h k = refl
 
-antisymm : (u v : ℕ) → u ≤ v → v ≤ u → u ≡ v
-antisymm u v h k = omega arith
-
 between : (a b : Bool) (u v s t r : ℕ)
     → is_gt (ordering_then (bool_cmp a b) (ordering_then (nat_cmp u v) (nat_cmp s t))) ≡ false
     → is_gt (ordering_then (bool_cmp b a) (ordering_then (nat_cmp v u) (nat_cmp t r))) ≡ false
@@ -77,7 +74,7 @@ between a b u v s t r h k =
     let more = second_not_gt (bool_cmp a b) _ line h in
     let less = second_not_gt (bool_cmp b a) _ back k in
     let word =
-    antisymm u v (le_from_not_gt u v (first_not_gt (nat_cmp u v) _ more)) (le_from_not_gt v u (first_not_gt (nat_cmp v u) _ less)) in
+    le_antisymm (le_from_not_gt u v (first_not_gt (nat_cmp u v) _ more)) (le_from_not_gt v u (first_not_gt (nat_cmp v u) _ less)) in
     let tied = ap (nat_cmp u) (sym word) ∙ tied_itself nat_cmp_total u in
     let tied_back = ap (λ n. nat_cmp n u) (sym word) ∙ tied_itself nat_cmp_total u in
     let from = le_from_not_gt s t (second_not_gt (nat_cmp u v) _ tied more) in

@@ -1,5 +1,5 @@
 -- The form that a word has in the other direction.
-use Rattle.std.proofs.Common.{◌≡◌, ℕ, ◌<◌, ◌^◌, true, false, Bool, Option, Some, None, is_some, refl, sym, ap, ◌∙◌}
+use Rattle.std.proofs.Common.{◌≡◌, ℕ, ◌<◌, ◌^◌, true, false, Bool, Option, refl, sym, ap, ◌∙◌}
 use Rattle.a429_word.specs.declared.bus.Bus.{Bus}
 use Rattle.a429_word.specs.declared.bus.Bus.TheVariants as bus
 use Rattle.a429_profile.specs.declared.codes.Codes.{Codes}
@@ -19,10 +19,6 @@ on_across : (c : Codes) (w : ℕ) (d : ℕ) (b : Bus) (f : Fields)
     → (fields_of w).middle ≡ d → form_on (with_destination d c) b f ≡ form_on (across c w) b f
 on_across c w d bus.A f e = ap (λ (n : ℕ). form_on (with_destination n c) bus.A f) (sym e)
 on_across c w d bus.B f e = ap (λ (n : ℕ). form_on (with_destination n c) bus.B f) (sym e)
-
-pub not_some : {X : Type 0} (o : Option X) → is_some o ≡ false → o ≡ None
-not_some None e = refl
-not_some (Some x) e = absurd (cc e)
 
 pub some_across : (c : Codes) (b : Bus) (w : ℕ) (f : Fields) (o : Option Form)
     → w < 2 ^ 32 → (IsFree c b w → ⊥) → fields_of w ≡ f → o ≡ form_on (with_destination f.middle c) (other_line b) f → o ≡ form_across c b w

@@ -9,7 +9,7 @@ use Rattle.std.proofs.lemmas.Nat.Bits.{bit_at_xor, bit_at-suc}
 use Rattle.a429_profile.specs.CheckTables.{turned, fed_down, after_zeros}
 use Rattle.a429_ldu.specs.CheckWord.{fed_bits, fed}
 
-by_tests : (s t a b p : ℕ) → s < 2 → t < 2
+pub by_tests : (s t a b p : ℕ) → s < 2 → t < 2
     → cond (eqb ((s + t) % 2) 1) (bit_xor (bit_xor a b) p) (bit_xor a b)
     ≡ bit_xor (cond (eqb s 1) (bit_xor a p) a) (cond (eqb t 1) (bit_xor b p) b)
 by_tests zero zero a b p h k = refl

@@ -2,6 +2,7 @@
 use Rattle.std.proofs.Common.{◌≡◌, ◌⊎◌, ℕ, suc, ◌≤◌, List, [], ◌∷◌, ◌++◌, length, take, Option, Some, None, is_some, slice_get, refl, sym, ap, ◌∙◌, subst, inl, inr, arith, append-nil}
 use Rattle.a429_word.specs.declared.bus.Bus.{Bus}
 use Rattle.a429_word.specs.declared.bus.Bus.TheVariants as bus
+use Rattle.a429_word.proofs.ListFacts.{next_item}
 use Rattle.a429_profile.specs.Profile.{Contents, IsProfile}
 use Rattle.a429_profile.specs.declared.codes.Codes.{Codes}
 use Rattle.a429_ldu.specs.declared.forms.Form.{Form}
@@ -16,7 +17,7 @@ use Rattle.a429_link.specs.Assignment.{Assigned, GoOnAssigned, IsSound}
 use Rattle.a429_link.specs.Run.{BeginsARun, IsSubsequenceOf}
 use Rattle.a429_link.specs.WholeBlock.{AreHalf, IsHalfAt, IsHalfForm, IsHalfNext, data_first, data_words}
 use Rattle.a429_link.proofs.AssignedSteps.{grown_count, open_assigned, some_attempts}
-use Rattle.a429_link.proofs.Contradictions.{latest_push, next_item, on}
+use Rattle.a429_link.proofs.Contradictions.{latest_push, on}
 use Rattle.a429_link.proofs.Message.{AllParts, Eot, IsRead, Part, Sot, end_message, message_in}
 use Rattle.a429_link.proofs.NumberKept.{sub_all}
 use Rattle.a429_link.proofs.RunAssigned.{run_assignable}

@@ -31,7 +31,7 @@ use Rattle.a429_link.proofs.NumberFacts.{number_from, number_same}
 use Rattle.a429_link.proofs.SourceBlock.{block_length}
 use Rattle.a429_link.proofs.StateConfigs.{InGrant, acks_count, front_words, length-front, sink_at, source_at}
 use Rattle.a429_link.proofs.NumberStages.{own_ack}
-use Rattle.a429_link.proofs.StateHolds.{HoldsAt, each_get, sends, step_holds}
+use Rattle.a429_link.proofs.StateHolds.{HoldsAt, each_get, sends, holds_after}
 use Rattle.a429_link.proofs.MessageSubsequence.{IsFrontWord, get_front}
 use Rattle.a429_link.proofs.Subsequence.{sub_rest}
 use Rattle.a429_link.specs.Trace.{sink_sees}
@@ -56,10 +56,6 @@ way_join p xs ys s t r h k = record {
 -- a step that records nothing
 quiet_step : (p : Contents) (a : Step) (s t : State) → label a ≡ None → Can p a s → after p a s ≡ t → Way p [] s t
 quiet_step p a s t l c e = record { steps = a ∷ []; run = (c, tt); ends = e; records = ap (λ o. with_label o []) l }
-
-pub holds_after : (p : Contents) → IsRead p → (steps : List Step) (s : State) → IsRun p steps s → HoldsAt p s → HoldsAt p (end_of p steps s)
-holds_after p good [] s h f = f
-holds_after p good (a ∷ steps) s h f = holds_after p good steps (after p a s) h.1 (step_holds p good a s h.0 f)
 
 pub way_holds : (p : Contents) → IsRead p → (items : List Seen) (s t : State) → Way p items s t → HoldsAt p s → HoldsAt p t
 way_holds p good items s t w h = subst (HoldsAt p) w.ends (holds_after p good w.steps s w.run h)

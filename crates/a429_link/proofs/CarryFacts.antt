@@ -1,5 +1,6 @@
 -- A data word that is sent, and taken at once.
 use Rattle.std.proofs.Common.{◌≡◌, ◌≢◌, ◌<◌, ◌≤◌, ◌+◌, ℕ, zero, suc, List, [], ◌∷◌, ◌++◌, length, Option, Some, None, IfNone, slice_get, refl, ap, subst, arith}
+use Rattle.std.proofs.lemmas.Option.{same_Some}
 use Rattle.a429_word.specs.declared.bus.Bus.TheVariants.{A}
 use Rattle.a429_profile.specs.declared.codes.Codes.{Codes}
 use Rattle.a429_profile.specs.Profile.{Contents}
@@ -26,9 +27,6 @@ use Rattle.a429_ldu.proofs.CarriedFacts.{carries_of}
 
 -- ---- a word inside a block is a data word
 
-some_is : (v w : ℕ) → Some v ≡ Some w → v ≡ w
-some_is v w e = cc e
-
 inside : (ws : List ℕ) (last j w : ℕ) → slice_get (ws ++ last ∷ []) j ≡ Some w → j ≢ length ws → slice_get ws j ≡ Some w
 inside [] last zero w e n = absurd (n refl)
 inside [] last (suc j) w e n = absurd (cc e)
@@ -39,7 +37,7 @@ data_word : (c : Codes) (ws : List ℕ) (semis : List (List ℕ)) (j w : ℕ)
     → AreDataWords c ws semis → slice_get ws j ≡ Some w → (s : List ℕ) × IsForm c A w (Part s)
 data_word c [] semis j w h e = absurd (cc e)
 data_word c (v ∷ ws) [] j w h e = absurd h
-data_word c (v ∷ ws) (s ∷ ss) zero w h e = (s, subst (λ x. IsForm c A x (Part s)) (some_is v w e) h.0)
+data_word c (v ∷ ws) (s ∷ ss) zero w h e = (s, subst (λ x. IsForm c A x (Part s)) (same_Some v w e) h.0)
 data_word c (v ∷ ws) (s ∷ ss) (suc j) w h e = data_word c ws ss j w h.1 e
 
 part_there : (p : Contents) (s : State) (u : LduValue) (k w : ℕ)

@@ -24,6 +24,7 @@ use Rattle.a429_link.specs.Step.{after}
 use Rattle.a429_link.proofs.CleanRuns.{Comes, Ready, Records, at, heard_at, idle_at, sent_steps, block_split, owing, sound, block_sent, block_goes, joined_append, ready_next, start_ready, clean_goes, clean_records, none_left, weave_goes}
 use Rattle.a429_link.proofs.MessageRead.{is_read}
 use Rattle.a429_link.proofs.StateConfigs.{source_at, unit_number}
+use Rattle.a429_link.proofs.SinkShelves.{newest_push}
 
 -- what was offered and settled before these steps, and what is after them
 pub record Books (p : Contents) (acts : List Step) (s : State) (o r : Received) (xs ys : List FileBytes) : Type 0 where
@@ -110,16 +111,11 @@ ack_books p is number u k o xs byte low =
       settles = heard.settles ∙ rw (eq-eqb number.file number.file refl) (rw (eq-eqb number.ldu number.ldu refl) refl);
     }
 
-newest_last : (xs : List FileBytes) (x : FileBytes) → newest (xs ++ x ∷ []) ≡ x ∷ []
-newest_last [] x = refl
-newest_last (y ∷ []) x = refl
-newest_last (y ∷ (z ∷ xs)) x = newest_last (z ∷ xs) x
-
 -- where all files so far are settled, they are so after one more link data unit
 all_settled : (file : ℕ) (bytes : List ℕ) (t : Bool) (o : Received)
     → cond t (o.files ++ newest (put file bytes t o).files) o.files ≡ (put file bytes t o).files
 all_settled file bytes true o =
-    ap (λ (l : List FileBytes). o.files ++ l) (newest_last o.files (record { number = file; bytes = o.open_bytes ++ bytes }))
+    ap (λ (l : List FileBytes). o.files ++ l) (newest_push (record { number = file; bytes = o.open_bytes ++ bytes }) o.files)
 all_settled file bytes false o = refl
 
 block_books : (p : Contents) → IsProfile p → (number : UnitNumber) (u : LduValue) → IsLdu p u

@@ -1,6 +1,7 @@
 -- A run without loss goes through, and free words may stand anywhere in its recording.
 use Rattle.std.proofs.Common.{◌≡◌, ℕ, zero, suc, ◌+◌, ◌%◌, ◌≤◌, ◌<◌, Bool, true, false, cond, not, eqb, ◌||◌, List, [], ◌∷◌, ◌++◌, map, length, Option, Some, None, is_some, unwrap_or, slice_get, refl, sym, ap, ◌∙◌, subst, arith, append_assoc, append-nil, length-append, eqb-true, eq-eqb}
 use Rattle.std.proofs.lemmas.Bool.{le-leb}
+use Rattle.std.proofs.Math.Bool.{or-true}
 use Rattle.a429_word.specs.declared.bus.Bus.TheVariants as bus
 use Rattle.a429_ldu.specs.Form.{form_of, is_free, word_number}
 use Rattle.a429_ldu.specs.Ldu.{IsLdu, LduValue, block_of, count_of, is_final}
@@ -120,11 +121,11 @@ reply_goes p g number cur sp k x m f = record {
 -- ---- a block crosses
 
 -- the words of a block, by place
-get_part : (qs : List ℕ) (q : ℕ) (ps : List ℕ) (e : Message) → slice_get (map Part (qs ++ q ∷ ps) ++ e ∷ []) (length qs) ≡ Some (Part q)
+pub get_part : (qs : List ℕ) (q : ℕ) (ps : List ℕ) (e : Message) → slice_get (map Part (qs ++ q ∷ ps) ++ e ∷ []) (length qs) ≡ Some (Part q)
 get_part [] q ps e = refl
 get_part (x ∷ qs) q ps e = get_part qs q ps e
 
-get_last : (ps : List ℕ) (e : Message) → slice_get (map Part ps ++ e ∷ []) (length ps) ≡ Some e
+pub get_last : (ps : List ℕ) (e : Message) → slice_get (map Part ps ++ e ∷ []) (length ps) ≡ Some e
 get_last [] e = refl
 get_last (x ∷ ps) e = get_last ps e
 
@@ -136,10 +137,7 @@ pub record Comes (p : Contents) (number : UnitNumber) (last : Option Number) (re
   pub room : number.ldu ≤ p.codes.first_ldu + 254
   pub kept : received_for last number.file received ≡ received
 
-eqb_same : (n : ℕ) → eqb n n ≡ true
-eqb_same n = eq-eqb n n refl
-
-not_last : (k n : ℕ) (b : Bool) → eqb k n ≡ b → k < n → b ≡ false
+pub not_last : (k n : ℕ) (b : Bool) → eqb k n ≡ b → k < n → b ≡ false
 not_last k n true e l = absurd (omega (arith, eqb-true k n e))
 not_last k n false e l = refl
 
@@ -166,10 +164,6 @@ sound p is u h =
 holding : LduValue → UnitNumber → List ℕ → SinkPhase
 holding u number qs = InBlock (record { gfi = u.gfi; file = number.file; ldu = number.ldu; words = qs })
 
-or_true : (b : Bool) → (b || true) ≡ true
-or_true true = refl
-or_true false = refl
-
 parts_goes : (p : Contents)
     → IsRead p → (g : ℕ) (number : UnitNumber) (u : LduValue) → Sound p u → (last : Option Number) (received : Received)
     → Comes p number last received → (qs ps : List ℕ) → qs ++ ps ≡ u.words → AllParts p ps → (k : ℕ) → k ≡ suc (length qs)
@@ -187,7 +181,7 @@ parts_goes p good g number u s last received c qs [] e a k ek =
     let whole : eqb (suc k) (count_of u) ≡ true = rw ek (rw same (eq-eqb _ _ (omega arith))) in
     let b : Block = record { gfi = u.gfi; file = number.file; ldu = number.ldu; words = qs } in
     let is : is_good p last (count_of u) b u.check ≡ true =
-    rw same (rw (eqb_same (length u.words + 2)) (rw s.carried (rw s.agrees (rw c.follows (or_true (is_same last number)))))) in
+    rw same (rw (eq-eqb (length u.words + 2) _ refl) (rw s.carried (rw s.agrees (rw c.follows (or-true (is_same last number)))))) in
     let one = word_goes p g number (Some u) (Sending k) (sink_at last received (count_of u) (InBlock b)) (end_message u) place tt form in
     record { run = one.run; ends = one.ends ∙ rw whole (rw is (rw same refl)) }
 parts_goes p good g number u s last received c qs (q ∷ ps) e a k ek =
@@ -256,7 +250,7 @@ block_sent p good g number u is s last received count c =
     (at g number (Some u) (Sending 0) (sink_at last received n Granted)) =
     record {
       run = cleared.run;
-      ends = cleared.ends ∙ rw (eqb_same n) refl;
+      ends = cleared.ends ∙ rw (eq-eqb n n refl) refl;
     } in
     let begun =
     word_goes p g number (Some u) (Sending 0) (sink_at last received n Granted) (Sot u.gfi number.file number.ldu) refl tt sot in
@@ -298,7 +292,7 @@ block_goes p good number u is s last received count c =
     (put number.file (bytes_in p.codes u.words) (is_final p.codes u.flags) o) n))
     c.kept (record {
       run = settled.run;
-      ends = settled.ends ∙ rw (eqb_same number.file) (rw (eqb_same number.ldu) (rw c.new refl));
+      ends = settled.ends ∙ rw (eq-eqb number.file number.file refl) (rw (eq-eqb number.ldu number.ldu refl) (rw c.new refl));
     }) in
     subst (λ acts. Goes p acts (idle_at number last received count) (idle_at (number_after p.codes number u)
     (Some (unit_number p.codes number u)) (put number.file (bytes_in p.codes u.words) (is_final p.codes u.flags) received) n))
@@ -330,10 +324,10 @@ next_comes p good number bytes false received byte fit room =
     let next = next_number p.codes number false in
     record {
       new = next_other p.codes number false (omega arith);
-      follows = rw (number_same next) (rw (le-leb next.ldu (p.codes.first_ldu + 254) room) (or_true (begins_file p.codes number next)));
+      follows = rw (number_same next) (rw (le-leb next.ldu (p.codes.first_ldu + 254) room) (or-true (begins_file p.codes number next)));
       byte = byte;
       room = room;
-      kept = rw (eqb_same number.file) refl;
+      kept = rw (eq-eqb number.file number.file refl) refl;
     }
 
 abbrev pub last_after : Codes → UnitNumber → Option Number → List LduValue → Option Number
@@ -471,4 +465,4 @@ weave_goes p (i ∷ items) gs s r h =
 pub start_ready : (p : Contents) (file : ℕ) (us : List LduValue)
     → file ≤ 255 → AllFit p (first_number p.codes file) us → Ready p (first_number p.codes file) None nothing_received us
 start_ready p file [] f h = tt
-start_ready p file (u ∷ us) f h = record { new = refl; follows = eqb_same p.codes.first_ldu; byte = f; room = h.1; kept = refl }
+start_ready p file (u ∷ us) f h = record { new = refl; follows = eq-eqb p.codes.first_ldu p.codes.first_ldu refl; byte = f; room = h.1; kept = refl }

@@ -1,8 +1,9 @@
 -- What contradicts the recorded words of a link data unit, no run records.
-use Rattle.std.proofs.Common.{◌≡◌, ℕ, zero, suc, Bool, true, false, cond, eqb, List, [], ◌∷◌, ◌++◌, length, take, Option, Some, None, slice_get, refl, sym, ap, ◌∙◌, subst, inl, inr, append_assoc, append-nil, eqb-true}
+use Rattle.std.proofs.Common.{◌≡◌, ℕ, suc, Bool, true, false, cond, eqb, List, [], ◌∷◌, ◌++◌, length, take, Option, Some, None, slice_get, refl, sym, ap, ◌∙◌, subst, inl, inr, append_assoc, append-nil, eqb-true}
 use Rattle.std.proofs.lemmas.Bool.{and_parts}
 use Rattle.a429_word.specs.declared.bus.Bus.{Bus}
 use Rattle.a429_word.specs.declared.bus.Bus.TheVariants as bus
+pub use Rattle.a429_word.proofs.ListFacts.{next_item}
 use Rattle.a429_profile.specs.Profile.{Contents, IsProfile}
 use Rattle.a429_ldu.specs.declared.forms.Form.{Form}
 use Rattle.a429_ldu.specs.declared.forms.Form.TheVariants as form
@@ -34,12 +35,12 @@ latest_push_from p (x ∷ items) i a = latest_push_from p items i (with_item p a
 pub latest_push : (p : Contents) (items : List Seen) (i : Seen) → latest p (items ++ i ∷ []) ≡ with_item p (latest p items) i
 latest_push p items i = latest_push_from p items i (fresh 0)
 
-acks_push : (p : Contents) (n : UnitNumber) (items : List Seen) (i : Seen)
+pub acks_push : (p : Contents) (n : UnitNumber) (items : List Seen) (i : Seen)
     → AcksOnly p n items → AcksForm n i.bus (form_of p.codes i.bus i.word) → AcksOnly p n (items ++ i ∷ [])
 acks_push p n [] i h k = (k, tt)
 acks_push p n (x ∷ items) i h k = (h.0, acks_push p n items i h.1 k)
 
-same_number : (m n : UnitNumber) → is_number m n ≡ true → m ≡ n
+pub same_number : (m n : UnitNumber) → is_number m n ≡ true → m ≡ n
 same_number m n e =
     let both = and_parts (eqb m.file n.file) (eqb m.ldu n.ldu) e in
     number_from m n (eqb-true m.file n.file both.0) (eqb-true m.ldu n.ldu both.1)
@@ -422,12 +423,6 @@ no_other_form p sound good items bus.A w (Some (form.Part n)) s q e known run ot
 no_other_form p sound good items bus.A w (Some (form.Eot f c)) s q e known run other =
     no_other_last p sound good items s.attempt w f c s.unit q e known run other
 no_other_form p sound good items _ w _ s q e known run other = absurd other
-
--- the items up to one more
-pub next_item : {X : Type 0} (i : ℕ) (x : X) (xs : List X) → slice_get xs i ≡ Some x → take (suc i) xs ≡ take i xs ++ x ∷ []
-next_item i x [] h = absurd (cc h)
-next_item {X} zero x (y ∷ xs) h = let e : y ≡ x = cc in ap (λ (z : X). z ∷ []) e
-next_item {X} (suc i) x (y ∷ xs) h = ap (λ (l : List X). y ∷ l) (next_item i x xs h)
 
 no_other_next : (p : Contents) → IsProfile p → IsRead p → (items : List Seen) (i : ℕ) (o : Option Seen) → slice_get items i ≡ o
     → IsOtherNext p (so_far p (take i items)) o → BeginsARun p (take (suc i) items) → ⊥

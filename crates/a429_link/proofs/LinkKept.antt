@@ -1,11 +1,12 @@
 -- The states of a link: files that were handed out change no step.
-use Rattle.std.proofs.Common.{◌≡◌, ◌↔◌, ℕ, ◌≤◌, Bool, true, false, cond, List, [], ◌∷◌, ◌++◌, Option, Some, None, IsSome, is_some, Result, Ok, Err, IfErr, refl, sym, ap, ◌∙◌, subst, arith, append_assoc, append-nil}
+use Rattle.std.proofs.Common.{◌≡◌, ◌↔◌, ℕ, ◌≤◌, Bool, true, false, cond, List, [], ◌∷◌, ◌++◌, Option, Some, None, is_some, Result, Ok, Err, IfErr, refl, sym, ap, ◌∙◌, subst, arith, append_assoc, append-nil}
 use Rattle.a429_ldu.specs.Carried.{bytes_in}
 use Rattle.a429_word.specs.Word.{sum_below}
 use Rattle.a429_word.specs.declared.bus.Bus.TheVariants as bus
+use Rattle.a429_word.proofs.Outcomes.{some_value}
 use Rattle.a429_ldu.specs.Form.{form_of, is_free, word_number}
 use Rattle.a429_ldu.specs.Ldu.{LduValue, is_final}
-use Rattle.a429_link.proofs.Message.{IsRead, Message}
+use Rattle.a429_link.proofs.Message.{Message}
 use Rattle.a429_link.specs.Run.{IsBounded, IsRun, end_of}
 use Rattle.a429_link.specs.Sink.{Block, Granted, InBlock, MayAnswerForm, Number, Owes, OwesAck, OwesClear, OwesNak, Quiet, Received, Sink, SinkPhase, accepts, accepts_owed, answers_form, emptied, is_same, is_same_file, put, received_for, takes_first, takes_form, number_of}
 use Rattle.a429_link.specs.Step.{Can, IsNamedStep, after, IsFault}
@@ -25,7 +26,7 @@ use Rattle.a429_link.specs.declared.fault.StepFault.TheVariants as fault
 use Rattle.a429_link.specs.Transfer.{IsReadyStep, IsFaultByName, Applies}
 use Rattle.a429_link.specs.Link.{with_earlier, handed_out, IsKept}
 use Rattle.a429_link.proofs.StateConfigs.{Config, idle, asked, unasked, heard, sending, waiting}
-use Rattle.a429_link.proofs.StateHolds.{HoldsAt, Current, step_holds, start_holds}
+use Rattle.a429_link.proofs.StateHolds.{HoldsAt, Current, start_holds, holds_after}
 use Rattle.a429_link.proofs.RunCrossing.{run_bounded}
 use Rattle.a429_link.proofs.MessageRead.{is_read}
 use Rattle.a429_link.specs.declared.number.UnitNumber.{UnitNumber}
@@ -174,10 +175,6 @@ pub run_push : (p : Contents) (steps : List Step) (a : Step) (s : State)
 run_push p [] a s h c = (c, tt)
 run_push p (b ∷ steps) a s h c = (h.0, run_push p steps a (after p b s) h.1 c)
 
-pub run_holds : (p : Contents) → IsRead p → (steps : List Step) (s : State) → IsRun p steps s → HoldsAt p s → HoldsAt p (end_of p steps s)
-run_holds p good [] s r h = h
-run_holds p good (a ∷ steps) s r h = run_holds p good steps (after p a s) r.1 (step_holds p good a s r.0 h)
-
 -- ---- a link's states
 
 pub kept_start : (p : Contents) (first : ℕ) → IsProfile p → first ≤ 255 → IsKept p (start p first)
@@ -227,7 +224,7 @@ pub kept_holds : (p : Contents) (s : State) → IsKept p s → HoldsAt p s
 kept_holds p s h =
     let r = h.reached in
     let good = is_read p h.sound in
-    let b = subst (HoldsAt p) r.ends (run_holds p good r.steps (start p r.first) r.run (start_holds p r.first r.byte)) in
+    let b = subst (HoldsAt p) r.ends (holds_after p good r.steps (start p r.first) r.run (start_holds p r.first r.byte)) in
     record {
       xs = b.xs;
       ys = b.ys;
@@ -239,10 +236,6 @@ kept_holds p s h =
     }
 
 -- ---- steps by name
-
-some_word : (o : Option ℕ) → IsSome o → (w : ℕ) × (o ≡ Some w)
-some_word (Some w) h = (w, refl)
-some_word None h = absurd (cc h)
 
 -- the count of a clear answer that is owed
 owed_count : (p : Contents) (number : UnitNumber) (cur : Option LduValue) (sp : SourceState) (count : ℕ) (xs ys : List Message)
@@ -277,14 +270,14 @@ owed_word p is s h Granted e o = absurd o
 owed_word p is s h (InBlock b) e o = absurd o
 
 -- a word of which no bit is set is free: its parity is wrong
-free_word : (c : Codes) → is_free c bus.A 0 ≡ true
+pub free_word : (c : Codes) → is_free c bus.A 0 ≡ true
 unfolding sum_below
 free_word c = refl
 
 pub named_if_ready : (p : Contents) → IsProfile p → (a : Step) (s : State) → HoldsAt p s → IsReadyStep p a s → IsNamedStep p a s
 named_if_ready p is (Load u) s h r = r
 named_if_ready p is (Sent i) s h r =
-    let next = some_word (next_word_of p s.source) r in (record { bus = bus.A; word = next.0 }, (refl, next.1))
+    let next = some_value (next_word_of p s.source) r in (record { bus = bus.A; word = next.0 }, (refl, next.1))
 named_if_ready p is SentLost s h r = r
 named_if_ready p is TimeOut s h r = r
 named_if_ready p is TakeAnswer s h r = r

@@ -1,14 +1,8 @@
 -- Words that are some of others, in order.
-use Rattle.std.proofs.Common.{◌≡◌, ◌⊎◌, ℕ, zero, suc, ◌≤◌, List, [], ◌∷◌, ◌++◌, map, length, take, Some, slice_get, refl, sym, ap, subst, inl, inr, arith}
+use Rattle.std.proofs.Common.{◌≡◌, ◌⊎◌, ℕ, zero, suc, ◌≤◌, List, [], ◌∷◌, ◌++◌, map, length, Some, slice_get, refl, sym, ap, subst, inl, inr, arith}
 use Rattle.a429_link.proofs.Message.{Eot, Part, Message, Sot}
 use Rattle.a429_link.specs.Run.{IsSubsequenceOf}
 use Rattle.a429_link.proofs.Subsequence.{sub_length}
-
--- the words so far and the next one
-pub take_next : (k : ℕ) (w : Message) (ys : List Message) → slice_get ys k ≡ Some w → take (suc k) ys ≡ take k ys ++ w ∷ []
-take_next k w [] h = absurd (cc h)
-take_next zero w (y ∷ ys) h = let e : y ≡ w = cc in ap (λ (x : Message). x ∷ []) e
-take_next (suc k) w (y ∷ ys) h = ap (λ (l : List Message). y ∷ l) (take_next k w ys h)
 
 -- the word at a place of a front and one more
 pub get_front : (k : ℕ) (w e : Message) (ys : List Message)

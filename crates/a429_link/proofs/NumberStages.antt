@@ -1,7 +1,8 @@
 -- Where the source stands to a link data unit whose start word was recorded, and how each step goes on from there.
-use Rattle.std.proofs.Common.{◌≡◌, ◌⊎◌, ℕ, zero, suc, ◌+◌, ◌%◌, ◌≤◌, Bool, true, false, cond, eqb, ◌&&◌, List, [], ◌∷◌, ◌++◌, take, Option, Some, None, slice_get, refl, sym, ap, ◌∙◌, subst, inl, inr, arith}
+use Rattle.std.proofs.Common.{◌≡◌, ◌⊎◌, ℕ, suc, ◌+◌, ◌%◌, ◌≤◌, Bool, true, false, cond, eqb, ◌&&◌, List, [], ◌∷◌, ◌++◌, take, Option, Some, None, slice_get, refl, sym, ap, ◌∙◌, subst, inl, inr, arith}
 use Rattle.a429_word.specs.declared.bus.Bus.{Bus}
 use Rattle.a429_word.specs.declared.bus.Bus.TheVariants as bus
+use Rattle.a429_word.proofs.ListFacts.{next_item}
 use Rattle.a429_profile.specs.Profile.{Contents}
 use Rattle.a429_ldu.specs.declared.forms.Form.{Form}
 use Rattle.a429_ldu.specs.declared.forms.Form.TheVariants as form
@@ -24,29 +25,18 @@ use Rattle.a429_link.specs.Step.{Can, after, label}
 use Rattle.a429_link.proofs.Message.{Ack, AllSay, Cts, Eot, IsRead, MaySay, Message, Nak, Part, Rts, Sot, answers_as, block_messages, with_answer_as, with_answer_message, message_in, message_of, next_message, none_say, takes_as, takes_message}
 use Rattle.a429_link.proofs.MessageSubsequence.{IsBlockWord}
 use Rattle.a429_link.proofs.NumberFacts.{number_from, number_same}
-use Rattle.a429_link.proofs.Subsequence.{sub_none, sub_push, sub_take}
+use Rattle.a429_link.proofs.Subsequence.{sub_none, sub_push, sub_take, sub_more}
 use Rattle.a429_link.proofs.SinkShelves.{Past, past_given_up, past_new, past_next}
 use Rattle.a429_link.proofs.StateConfigs.{Config, Stale, acked, asked, block_words_each, cleared, idle, may_answer, may_owes, owes_alone, owes_grant, owes_stale, refused, sending, source_at, spoiled, unasked, waiting, whole}
-use Rattle.a429_link.proofs.StateHolds.{Current, HoldsAt, answered_count, owed_form, sends}
-use Rattle.a429_link.proofs.SinkFromTrace.{sees}
-use Rattle.a429_link.proofs.RunTraces.{HasCts, IsCts, block_word, no_cts}
+use Rattle.a429_link.proofs.StateHolds.{Current, HoldsAt, answered_count, owed_form, sends, each_get}
+use Rattle.a429_link.proofs.SinkFromTrace.{sees, none_there}
+use Rattle.a429_link.proofs.RunTraces.{HasCts, IsCts, no_cts}
 use Rattle.a429_link.proofs.RunCrossing.{HasAck, IsAck, no_ack, one_answer}
 use Rattle.a429_link.proofs.LatestAttempt.{joins}
 use Rattle.a429_link.proofs.NumbersCome.{start_has_number}
 use Rattle.a429_link.specs.Trace.{sink_sees}
 
 -- ---- lists
-
-next_taken : {X : Type 0} (k : ℕ) (w : X) (ys : List X) → slice_get ys k ≡ Some w → take (suc k) ys ≡ take k ys ++ w ∷ []
-next_taken k w [] h = absurd (cc h)
-next_taken {X} zero w (y ∷ ys) h = let e : y ≡ w = cc in ap (λ (x : X). x ∷ []) e
-next_taken {X} (suc k) w (y ∷ ys) h = ap (λ (l : List X). y ∷ l) (next_taken k w ys h)
-
-pub sub_more : {X : Type 0} (k : ℕ) (xs ys : List X) → IsSubsequenceOf xs (take k ys) → IsSubsequenceOf xs (take (suc k) ys)
-sub_more zero xs ys h = rw h (sub_none (take 1 ys))
-sub_more (suc k) xs [] h = h
-sub_more (suc k) xs (y ∷ ys) (inl h) = inl (sub_more k xs ys h)
-sub_more (suc k) xs (y ∷ ys) (inr (zs, e, h)) = inr (zs, e, sub_more k zs ys h)
 
 -- ---- the words of the attempt, by messages
 
@@ -165,7 +155,7 @@ pub words_push : (p : Contents) (n : UnitNumber) (u : LduValue) (k : ℕ) (w : �
     → IsSubsequenceOf (att ++ w ∷ []) (take (suc k) (block_of p.codes u n.file n.ldu))
 words_push p n u k w att e h =
     let block = block_of p.codes u n.file n.ldu in
-    subst (λ x. IsSubsequenceOf (att ++ w ∷ []) x) (sym (next_taken k w block e)) (sub_push w att (take k block) h)
+    subst (λ x. IsSubsequenceOf (att ++ w ∷ []) x) (sym (next_item k w block e)) (sub_push w att (take k block) h)
 
 -- a word of the block is recorded
 block_kept : (p : Contents) (n : UnitNumber) (u : LduValue) (i : ℕ) (vs att : List ℕ) (k : Sink) (w : ℕ) (x : Message)
@@ -185,7 +175,7 @@ sent_kept p n u Idle vs att k w x e h q c =
     subst (λ y. Words p n u Awaiting vs (joined bus.A w (Some y) att) × ((takes_message p y k).count ≡ count_of u)) same
     (words_none p n u Awaiting vs, refl)
 sent_kept p n u (Sending i) vs att k w x e h q c =
-    block_kept p n u i vs att k w x (block_word IsBlockWord i (block_messages u n) x (block_words_each u n) h) c
+    block_kept p n u i vs att k w x (each_get IsBlockWord i (block_messages u n) x (block_words_each u n) h) c
     (words_push p n u i w att e q)
 sent_kept p n u Awaiting vs att k w x e h q c = absurd (cc e)
 sent_kept p n u Waiting vs att k w x e h q c = absurd (cc e)
@@ -381,10 +371,6 @@ owes_listens (OwesAck b f) o l = l
 owes_listens OwesNak o l = l
 owes_listens _ o l = o
 
-pub none_there : (ws : List ℕ) → ws ≡ [] → IsNonEmpty ws → ⊥
-none_there [] e n = n
-none_there (w ∷ ws) e n = cc e
-
 -- nothing is on the way, and the sink owes nothing
 pub rests_alone : (p : Contents) (s : State) → HoldsAt p s → (sp : SourceState) → s.source.phase ≡ sp
     → Resting sp s.to_sink s.to_source s.sink.phase → (s.to_sink ≡ []) × (s.to_source ≡ []) × Listens s.sink.phase
@@ -498,7 +484,7 @@ gone_sends p n number (Some u) Idle w x att other e says gone h =
 gone_sends p n number (Some u) Awaiting w x att other e says gone h = cc e
 gone_sends p n number (Some u) Waiting w x att other e says gone h = cc e
 gone_sends p n number (Some u) (Sending k) w x att other e says gone h =
-    gone_block x (block_word IsBlockWord k (block_messages u number) x (block_words_each u number) e) e says h
+    gone_block x (each_get IsBlockWord k (block_messages u number) x (block_words_each u number) e) e says h
   where
     other_start : (x : Message) (o : Option Form)
         → slice_get (block_messages u number) k ≡ Some x → message_in w o ≡ Some x → IsStartOf n o → ⊥

@@ -202,7 +202,7 @@ pub record Known (p : Contents) (s : State) (o : Received) (fs : List FileBytes)
   pub books : Books p s o fs
   pub due : DueAt p s
 
-take_all_last : (p : Contents) (ws : List ℕ) (k : Sink) → (take_all p ws k).last ≡ k.last
+pub take_all_last : (p : Contents) (ws : List ℕ) (k : Sink) → (take_all p ws k).last ≡ k.last
 take_all_last p [] k = refl
 take_all_last p (w ∷ ws) k = take_all_last p ws _ ∙ takes_last p w (form_of p.codes bus.A w) k
 

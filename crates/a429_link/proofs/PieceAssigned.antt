@@ -1,7 +1,8 @@
 -- What a run records from a request on begins a run itself, or goes on from the link data unit that its sink accepted last.
-use Rattle.std.proofs.Common.{◌≡◌, ◌⊎◌, ℕ, suc, ◌+◌, ◌%◌, Bool, true, false, cond, eqb, ◌&&◌, List, [], ◌∷◌, ◌++◌, Option, Some, None, IsSome, is_some, refl, sym, ap, ◌∙◌, subst, inl, inr, arith}
+use Rattle.std.proofs.Common.{◌≡◌, ◌⊎◌, ℕ, suc, ◌+◌, ◌%◌, Bool, true, false, cond, eqb, ◌&&◌, List, [], ◌∷◌, ◌++◌, Option, Some, None, is_some, refl, sym, ap, ◌∙◌, subst, inl, inr, arith}
 use Rattle.a429_word.specs.declared.bus.Bus.{Bus}
 use Rattle.a429_word.specs.declared.bus.Bus.TheVariants as bus
+use Rattle.a429_word.proofs.Outcomes.{some_value}
 use Rattle.a429_profile.specs.Profile.{Contents, IsProfile}
 use Rattle.a429_ldu.specs.declared.forms.Form.{Form}
 use Rattle.a429_ldu.specs.declared.forms.Form.TheVariants as form
@@ -33,11 +34,12 @@ use Rattle.a429_link.proofs.NumberStages.{Resting, words_none}
 use Rattle.a429_link.proofs.ObserverRefuses.{seeing}
 use Rattle.a429_link.proofs.RunAssigned.{StandsBy, comes_more, run_assigned, sound_now}
 use Rattle.a429_link.proofs.RunCrossing.{Books, HasAccepted, HasAck, IsAck, start_books, step_crosses, takes_last}
-use Rattle.a429_link.proofs.RunTraces.{AllAllowed, block_word, see_label, trace_allowed}
-use Rattle.a429_link.proofs.SinkFromTrace.{Alike, sees, step_alike, take_all}
+use Rattle.a429_link.proofs.RunTraces.{AllAllowed, see_label, trace_allowed}
+use Rattle.a429_link.proofs.SinkFromTrace.{Alike, sees, step_alike}
 use Rattle.a429_link.proofs.StateConfigs.{Config, acked, block_words_each, cleared, may_answer, may_owes, owes_alone, refused, source_at}
-use Rattle.a429_link.proofs.StateHolds.{owed_form, sends, step_holds}
+use Rattle.a429_link.proofs.StateHolds.{owed_form, sends, step_holds, each_get}
 use Rattle.a429_link.proofs.Subsequence.{sub_none}
+use Rattle.a429_link.proofs.NumbersCome.{take_all_last}
 
 -- ---- the observer after a request: of all that was before only the link data unit acknowledged last counts
 
@@ -150,7 +152,7 @@ idle_asks : (number : UnitNumber) (cur : Option LduValue) (sp : SourceState) (n 
 idle_asks number None sp n e = absurd (cc e)
 idle_asks number (Some u) Idle n e = tt
 idle_asks number (Some u) (Sending k) n e =
-    absurd (block_word IsBlockWord k (block_messages u number) (Rts n) (block_words_each u number) e)
+    absurd (each_get IsBlockWord k (block_messages u number) (Rts n) (block_words_each u number) e)
 idle_asks number (Some u) Awaiting n e = absurd (cc e)
 idle_asks number (Some u) Waiting n e = absurd (cc e)
 
@@ -410,10 +412,6 @@ to_request p good (a ∷ steps) s o fs k seen before i n more q run b t m al e =
 
 -- ---- from there
 
-take_all_last : (p : Contents) (ws : List ℕ) (k : Sink) → (take_all p ws k).last ≡ k.last
-take_all_last p [] k = refl
-take_all_last p (w ∷ ws) k = take_all_last p ws _ ∙ takes_last p w (form_of p.codes bus.A w) k
-
 alike_last : (p : Contents) (s : State) (k : Sink) → Alike p s k → k.last ≡ s.sink.last
 alike_last p s k (inl e) = sym (ap (λ (z : Sink). z.last) e) ∙ take_all_last p s.to_sink s.sink
 alike_last p s k (inr r) = sym (ap (λ (z : Sink). z.last) r.alike)
@@ -486,16 +484,11 @@ from_request p is good i items more n q w = by s.sink.last refl w.tracks.1
           are = after_first p t i items n (acked_attempt t) (fresh 0) g.units q g.are;
         })
 
--- what is asked for
-pub asked_count : (o : Option ℕ) → IsSome o → (n : ℕ) × (o ≡ Some n)
-asked_count None h = absurd (cc h)
-asked_count (Some n) h = (n, refl)
-
 pub piece_assigned : (p : Contents) → IsProfile p → IsRead p → (items : List Seen) → BeginsWithRequest p items → IsPartOfARun p items
     → BeginsARun p items ⊎ FollowsUnit p items
 piece_assigned p is good [] begins r = absurd begins
 piece_assigned p is good (i ∷ items) begins r =
-    let asked = asked_count (asks i.bus (form_of p.codes i.bus i.word)) begins in
+    let asked = some_value (asks i.bus (form_of p.codes i.bus i.word)) begins in
     let at =
     to_request p good r.steps (start p r.first) nothing_received [] sink_at_first [] r.before i asked.0 (items ++ r.more) asked.1 r.run
     (start_books p r.first r.byte) (inl refl, refl) (inl refl) (trace_allowed p good r.first r.byte r.steps r.run) r.records in

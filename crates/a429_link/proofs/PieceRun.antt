@@ -3,6 +3,7 @@
 use Rattle.std.proofs.Common.{◌≡◌, ◌⊎◌, ℕ, zero, suc, ◌+◌, ◌-◌, ◌%◌, ◌≤◌, true, false, List, [], ◌∷◌, ◌++◌, Option, Some, None, refl, sym, ap, ◌∙◌, subst, inl, inr, arith, append-nil, eq-eqb}
 use Rattle.std.proofs.lemmas.Nat.Bits.{bit_at-zero}
 use Rattle.a429_word.specs.declared.bus.Bus.TheVariants as bus
+use Rattle.a429_word.proofs.Outcomes.{some_value}
 use Rattle.a429_profile.specs.Profile.{Contents, IsProfile}
 use Rattle.a429_profile.specs.declared.codes.Codes.{Codes}
 use Rattle.a429_ldu.specs.Carried.{bytes_in}
@@ -22,16 +23,16 @@ use Rattle.a429_link.specs.Piece.{BeginsWithRequest, FollowsUnit, IsReachable, a
 use Rattle.a429_link.specs.Run.{BeginsARun, IsPartOfARun, IsRun, trace}
 use Rattle.a429_link.specs.Sink.{Number, Quiet, Received, nothing_received, put}
 use Rattle.a429_link.specs.State.{rest, start}
-use Rattle.a429_link.proofs.AssignedSteps.{Place, holds_after, in_attempt, is_answered, source_of, to_number}
+use Rattle.a429_link.proofs.AssignedSteps.{Place, in_attempt, is_answered, source_of, to_number}
 use Rattle.a429_link.proofs.AssignedRun.{replay}
 use Rattle.a429_link.proofs.AssignedSteps.{at as standing}
 use Rattle.a429_link.proofs.CleanRuns.{Comes, Goes, at, block_goes, block_sent, goes_append, may_say, next_comes, owing, run_append, sent_steps, sound, trace_append}
 use Rattle.a429_link.proofs.Message.{Ack, IsRead, answers_as, answers_message, message_of, word_of}
 use Rattle.a429_link.proofs.NumberFacts.{next_ldu}
 use Rattle.a429_link.proofs.ObserverRefuses.{seeing}
-use Rattle.a429_link.proofs.PieceAssigned.{acked_attempt, allowed_by_last, asked_count}
+use Rattle.a429_link.proofs.PieceAssigned.{acked_attempt, allowed_by_last}
 use Rattle.a429_link.proofs.StateConfigs.{sink_at, unit_number}
-use Rattle.a429_link.proofs.StateHolds.{HoldsAt, start_holds}
+use Rattle.a429_link.proofs.StateHolds.{HoldsAt, start_holds, holds_after}
 use Rattle.a429_link.proofs.Subsequence.{sub_none}
 
 -- ---- to a number
@@ -235,4 +236,4 @@ piece_run p is good items begins (inl r) =
     record { first = r.first; byte = r.byte; steps = r.steps; run = r.run; before = []; more = r.more; records = r.records }
 piece_run p is good [] begins (inr f) = absurd begins
 piece_run p is good (i ∷ items) begins (inr f) =
-    let asked = asked_count (asks i.bus (form_of p.codes i.bus i.word)) begins in followed p is good i items asked.0 asked.1 f
+    let asked = some_value (asks i.bus (form_of p.codes i.bus i.word)) begins in followed p is good i items asked.0 asked.1 f

@@ -27,10 +27,11 @@ use Rattle.a429_link.proofs.Message.{Ack, AllSay, Cts, Eot, IsRead, MaySay, Mess
 use Rattle.a429_link.proofs.MessageSubsequence.{IsBlockWord}
 use Rattle.a429_link.proofs.Subsequence.{sub_none}
 use Rattle.a429_link.proofs.StateConfigs.{Config, acked, block_words_each, cleared, may_answer, may_owes, owes_alone, refused, source_at}
-use Rattle.a429_link.proofs.StateHolds.{Current, owed_form, sends, step_holds}
-use Rattle.a429_link.proofs.RunTraces.{IsCts, block_word, no_cts}
+use Rattle.a429_link.proofs.StateHolds.{Current, owed_form, sends, step_holds, each_get}
+use Rattle.a429_link.proofs.RunTraces.{IsCts, no_cts}
 use Rattle.a429_link.proofs.RunCrossing.{Books, HasAck, IsAck, no_ack, one_answer, start_books, step_crosses}
-use Rattle.a429_link.proofs.NumberStages.{Resting, Words, answered_kept, idle_alone, lose_gone, lost_kept, lost_rests, none_there, own_ack, owes_listens, rests_alone, unheard_kept, words_all, words_next, words_none, words_push}
+use Rattle.a429_link.proofs.NumberStages.{Resting, Words, answered_kept, idle_alone, lose_gone, lost_kept, lost_rests, own_ack, owes_listens, rests_alone, unheard_kept, words_all, words_next, words_none, words_push}
+use Rattle.a429_link.proofs.SinkFromTrace.{none_there}
 
 -- ---- attempts, by messages
 
@@ -122,7 +123,7 @@ after_free p now a b w o q ws vs kp e h = subst (λ x. AfterForm p now a b w x q
     none bus.A = h
     none bus.B = h
 
-next_comes : (c : Codes) (now : Option Assigned) (acked : Bool) (t : Assigned)
+pub next_comes : (c : Codes) (now : Option Assigned) (acked : Bool) (t : Assigned)
     → ComesTo c now acked t.number t.give_ups → IsNext c now acked t
 next_comes c None ok t h = h
 next_comes c (Some last) ok t h = inr h
@@ -174,7 +175,7 @@ sent_assigned p t a w x Idle q ws vs kp ew ex sound of words ack none same e =
     (asks_kept p (Some t) a t w q ws vs kp sound (inl refl) same (none tt))
 sent_assigned p t a w x (Sending i) q ws vs kp ew ex sound of words ack none same e =
     grown_words p t a w x q ws vs kp
-    (block_word IsBlockWord i (block_messages t.unit t.number) x (block_words_each t.unit t.number) ex) of same
+    (each_get IsBlockWord i (block_messages t.unit t.number) x (block_words_each t.unit t.number) ex) of same
     (subst (λ sp. Words p t.number t.unit sp vs (a.words ++ w ∷ [])) (sym e) (words_next p t.number t.unit i
     (eqb (suc i) (count_of t.unit)) vs (a.words ++ w ∷ []) (words_push p t.number t.unit i w a.words ew words)))
     ack

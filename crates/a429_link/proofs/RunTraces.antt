@@ -16,10 +16,11 @@ use Rattle.a429_link.specs.declared.step.Step.{Step}
 use Rattle.a429_link.specs.declared.step.Step.TheVariants.{Answered, FreeSeen, GiveUp, Load, LoseAnswer, Sent, SentLost, Silent, SinkTakes, TakeAnswer, TimeOut}
 use Rattle.a429_profile.specs.Profile.{Contents}
 use Rattle.a429_word.specs.declared.bus.Bus.{Bus}
-use Rattle.a429_link.proofs.MessageSubsequence.{Each, IsFrontWord, IsBlockWord, take_next, get_front, sub_each}
-use Rattle.a429_link.proofs.Subsequence.{sub_push}
-use Rattle.a429_link.proofs.StateConfigs.{Config, idle, asked, unasked, heard, cleared, sending, waiting, whole, spoiled, refused, acked, InGrant, block_taken, front_words, block_words_each, each_take, lost_front, length-front, may_owes, owes_stale, owes_grant, source_at}
-use Rattle.a429_link.proofs.StateHolds.{HoldsAt, step_holds, start_holds, sends, owed_form, alone_on_the_way}
+use Rattle.a429_word.proofs.ListFacts.{next_item}
+use Rattle.a429_link.proofs.MessageSubsequence.{Each, IsFrontWord, IsBlockWord, get_front, sub_each}
+use Rattle.a429_link.proofs.Subsequence.{sub_push, sub_more}
+use Rattle.a429_link.proofs.StateConfigs.{Config, idle, asked, unasked, heard, cleared, sending, waiting, whole, spoiled, refused, acked, InGrant, block_taken, front_words, block_words_each, each_take, length-front, may_owes, owes_stale, owes_grant, source_at}
+use Rattle.a429_link.proofs.StateHolds.{HoldsAt, step_holds, start_holds, sends, owed_form, alone_on_the_way, each_get}
 use Rattle.a429_link.proofs.SinkFromTrace.{sees, take_all, Alike, IsStill, step_alike}
 use Rattle.a429_link.specs.Trace.{sink_at_first}
 use Rattle.a429_link.specs.declared.number.UnitNumber.{UnitNumber}
@@ -99,7 +100,7 @@ pushed_seen : (number : UnitNumber) (u : LduValue) (k : ℕ) (seen : List Messag
 pushed_seen number u k seen w e h =
     elim (get_front k w (end_message u) (front u number) e) [
       | inl (l, g) ↦
-          inl (subst (λ x. IsSubsequenceOf (seen ++ w ∷ []) x) (sym (take_next k w (front u number) g))
+          inl (subst (λ x. IsSubsequenceOf (seen ++ w ∷ []) x) (sym (next_item k w (front u number) g))
           (sub_push w seen (take k (front u number)) h))
       | inr (l, g) ↦ inr (omega (arith, length-front u number))
     ]
@@ -109,7 +110,7 @@ front_seen : (number : UnitNumber) (u : LduValue) (k : ℕ) (seen : List Message
     → IsSubsequenceOf (see bus.A (Some w) seen) (take (suc k) (front u number)) ⊎ (suc k ≡ count_of u)
 front_seen number u k seen (Sot g f l) e h = pushed_seen number u k seen (Sot g f l) e h
 front_seen number u k seen (Part s) e h = pushed_seen number u k seen (Part s) e h
-front_seen number u k seen w e h = inl (lost_front k seen (front u number) h)
+front_seen number u k seen w e h = inl (sub_more k seen (front u number) h)
 
 sent_seen : (p : Contents) (number : UnitNumber) (cur : Option LduValue) (sp : SourceState) (count : ℕ) (kp : SinkPhase)
     (xs ys : List Message) (vs : List ℕ) (seen : List Message) (w : Message)
@@ -128,7 +129,7 @@ lost_seen : (p : Contents) (number : UnitNumber) (cur : Option LduValue) (sp : S
 lost_seen p number None sp count kp xs ys vs seen e d (idle f s) h = absurd (cc e)
 lost_seen p number (Some u) sp count kp xs ys vs seen e d (idle f s) h = λ i. absurd (no_cts p vs (none_say p bus.B vs ys d refl) i)
 lost_seen p number cur sp count kp xs ys vs seen e d (sending {u} {k} r g c le q) h =
-    next_seen p number u k vs seen (eqb (suc k) (count_of u)) refl (inl (lost_front k seen (front u number) h))
+    next_seen p number u k vs seen (eqb (suc k) (count_of u)) refl (inl (sub_more k seen (front u number) h))
 lost_seen p number cur sp count kp xs ys vs seen e d _ h = absurd (cc e)
 
 abbrev SeenBy : Contents → Source → List ℕ → List Message → Type 0
@@ -290,11 +291,6 @@ part_place (suc k) s [] fl ch e = absurd (cc e)
 part_place zero s (q ∷ ps) fl ch e = omega arith
 part_place (suc k) s (q ∷ ps) fl ch e = omega (arith, part_place k s ps fl ch e)
 
-pub block_word : (P : Message → Type 0) (k : ℕ) (xs : List Message) (w : Message) → Each P xs → slice_get xs k ≡ Some w → P w
-block_word P k [] w h e = absurd (cc e)
-block_word P zero (y ∷ ys) w h e = let same : y ≡ w = cc in subst P same h.0
-block_word P (suc k) (y ∷ ys) w h e = block_word P k ys w h.1 e
-
 sending_allowed : (number : UnitNumber) (u : LduValue) (k : ℕ) (seen : List Message) (w : Message) (sink : Sink)
     → slice_get (block_messages u number) k ≡ Some w → InGrant sink.phase → sink.count ≡ count_of u
     → IsSubsequenceOf seen (take k (front u number)) → AllowsMessage sink seen bus.A (Some w)
@@ -304,7 +300,7 @@ sending_allowed number u zero seen (Part s) sink e i c h = absurd (cc e)
 sending_allowed number u (suc k) seen (Part s) sink e i c h =
     (i, omega (arith, part_place k s u.words u.flags u.check e, parts_sub seen (take (suc k) (front u number)) h, parts_take k u.words, c))
 sending_allowed number u k seen (Eot fl ch) sink e i c h = i
-sending_allowed number u k seen w sink e i c h = absurd (block_word IsBlockWord k (block_messages u number) w (block_words_each u number) e)
+sending_allowed number u k seen w sink e i c h = absurd (each_get IsBlockWord k (block_messages u number) w (block_words_each u number) e)
 
 sent_allowed : (p : Contents) (number : UnitNumber) (cur : Option LduValue) (sp : SourceState) (sink : Sink) (xs ys : List Message)
     (ws vs : List ℕ) (seen : List Message) (k : Sink) (w : Message)

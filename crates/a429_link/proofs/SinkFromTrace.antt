@@ -100,7 +100,7 @@ step_on p good (Answered i) s k h c e =
 step_on p good (FreeSeen i) s k h c e = inl (e ∙ sym (free_sees p good i.bus i.word k h))
 step_on p good GiveUp s k h c e = inl e
 
-none_there : (ws : List ℕ) → ws ≡ [] → IsNonEmpty ws → ⊥
+pub none_there : (ws : List ℕ) → ws ≡ [] → IsNonEmpty ws → ⊥
 none_there [] e n = n
 none_there (w ∷ ws) e n = cc e
 
@@ -122,7 +122,7 @@ lost_still number (Some u) (Sending n) h i = absurd i
 lost_still number (Some u) Awaiting h i = tt
 lost_still number (Some u) Waiting h i = tt
 
-quiet_owes : (kp : SinkPhase) → kp ≡ Quiet → Owes kp → ⊥
+pub quiet_owes : (kp : SinkPhase) → kp ≡ Quiet → Owes kp → ⊥
 quiet_owes kp e o = subst Owes e o
 
 -- a step after the sink has kept silent

@@ -2,6 +2,7 @@
 use Rattle.std.proofs.Common.{◌≡◌, ℕ, zero, suc, ◌+◌, ◌≤◌, ◌<◌, Bool, true, false, cond, eqb, List, [], ◌∷◌, ◌++◌, map, length, take, Option, Some, None, slice_get, IsSome, refl, sym, ap, ◌∙◌, subst, inl, inr, arith, append_assoc, append-nil, length-append, eqb-true}
 use Rattle.std.proofs.lemmas.Bool.{and_parts, eqb-false}
 use Rattle.std.proofs.lemmas.List.{map_push}
+use Rattle.a429_word.proofs.ListFacts.{next_item}
 use Rattle.a429_ldu.specs.Carried.{bytes_in}
 use Rattle.a429_ldu.specs.Ldu.{LduValue, count_of, is_final}
 use Rattle.a429_link.proofs.Message.{Ack, Cts, Eot, MaySay, Nak, Part, Rts, Message, Sot, block_messages, front, with_answer_message, end_message, next_message, takes_message, taken_messages}
@@ -13,8 +14,8 @@ use Rattle.a429_link.specs.declared.state.SourceState.{SourceState}
 use Rattle.a429_link.specs.declared.state.SourceState.TheVariants.{Awaiting, Idle, Sending, Waiting}
 use Rattle.a429_profile.specs.Profile.{Contents}
 use Rattle.a429_profile.specs.declared.codes.Codes.{Codes}
-use Rattle.a429_link.proofs.MessageSubsequence.{Each, IsFrontWord, IsBlockWord, take_next, get_front, sub_each, each_at, each_push, parts_front, parts_block, sub_end, sub_no_end, length-parts, same_parts, sub_start}
-use Rattle.a429_link.proofs.Subsequence.{sub_none, sub_rest, sub_back, sub_forth, sub_take, sub_push, sub_lost, sub_length}
+use Rattle.a429_link.proofs.MessageSubsequence.{Each, IsFrontWord, IsBlockWord, get_front, sub_each, each_at, each_push, parts_front, parts_block, sub_end, sub_no_end, length-parts, same_parts, sub_start}
+use Rattle.a429_link.proofs.Subsequence.{sub_rest, sub_back, sub_forth, sub_take, sub_push, sub_lost, sub_length, sub_more}
 use Rattle.a429_link.specs.declared.number.UnitNumber.{UnitNumber}
 use Rattle.a429_link.proofs.NumberFacts.{number_from}
 
@@ -108,7 +109,7 @@ sent_front : (number : UnitNumber) (u : LduValue) (k : ℕ) (ws xs : List Messag
 sent_front number u k ws xs w e lt h =
     elim (get_front k w (end_message u) (front u number) e) [
       | inl (l, g) ↦
-          subst (λ x. IsSubsequenceOf (ws ++ (xs ++ w ∷ [])) x) (sym (take_next k w (front u number) g))
+          subst (λ x. IsSubsequenceOf (ws ++ (xs ++ w ∷ [])) x) (sym (next_item k w (front u number) g))
           (subst (λ x. IsSubsequenceOf x (take k (front u number) ++ w ∷ [])) (append_assoc ws xs (w ∷ []))
           (sub_push w (ws ++ xs) (take k (front u number)) h))
       | inr (l, g) ↦ absurd (omega (arith, length-front u number))
@@ -125,12 +126,6 @@ sent_last number u k ws xs w e q h =
           (subst (λ x. IsSubsequenceOf x (block_messages u number)) (append_assoc ws xs (end_message u ∷ []))
           (sub_push (end_message u) (ws ++ xs) (front u number) (sub_take k (ws ++ xs) (front u number) h)))
     ]
-
-pub lost_front : (k : ℕ) (xs ys : List Message) → IsSubsequenceOf xs (take k ys) → IsSubsequenceOf xs (take (suc k) ys)
-lost_front zero xs ys h = rw h (sub_none (take 1 ys))
-lost_front (suc k) xs [] h = h
-lost_front (suc k) xs (y ∷ ys) (inl h) = inl (lost_front k xs ys h)
-lost_front (suc k) xs (y ∷ ys) (inr (zs, e, h)) = inr (zs, e, lost_front k zs ys h)
 
 pub sent_fits : (number : UnitNumber) (cur : Option LduValue) (sp : SourceState) (count : ℕ) (kp : SinkPhase) (xs ys : List Message)
     (w : Message)
@@ -149,7 +144,7 @@ pub lost_fits : (number : UnitNumber) (cur : Option LduValue) (sp : SourceState)
 lost_fits number None sp count kp xs ys e (idle f s) = absurd (cc e)
 lost_fits number (Some u) sp count kp xs ys e (idle f s) = unasked f s
 lost_fits number cur sp count kp xs ys e (sending {u} {k} r g c le h) =
-    next_fits number u k count kp xs (eqb (suc k) (count_of u)) refl r g c le (λ lt. lost_front k (block_taken kp ++ xs) (front u number) h)
+    next_fits number u k count kp xs (eqb (suc k) (count_of u)) refl r g c le (λ lt. sub_more k (block_taken kp ++ xs) (front u number) h)
     (λ eq. sub_lost (end_message u) (block_taken kp ++ xs) (front u number) (sub_take k (block_taken kp ++ xs) (front u number) h))
 lost_fits number cur sp count kp xs ys e _ = absurd (cc e)
 

@@ -18,6 +18,7 @@ use Rattle.a429_link.proofs.MessageSubsequence.{Each, each_push}
 use Rattle.a429_link.proofs.StateConfigs.{Config, idle, cleared, refused, acked, load_fits, give_up_fits, sent_fits, lost_fits, late_fits, unheard_fits, silent_fits, answer_fits, taken_fits, heard_fits, phase_answered, acks_count, may_answer, owes_alone, source_at}
 use Rattle.a429_link.specs.declared.number.UnitNumber.{UnitNumber}
 use Rattle.a429_link.proofs.NumberFacts.{next_byte}
+use Rattle.a429_link.specs.Run.{IsRun, end_of}
 
 -- the current link data unit is one of the profile, under a number that an answer can carry
 abbrev pub Current : Contents → Option LduValue → ℕ → Type 0
@@ -226,6 +227,10 @@ step_holds p good Silent s c h = on_way p s s.source _ h h.file h.current (silen
 step_holds p good (Answered i) s c h = answered_holds p s i c h
 step_holds p good (FreeSeen i) s c h = h
 step_holds p good GiveUp s c h = on_way p s _ s.sink h (omega arith) tt (give_up_fits _ _ _ _ _ _ _ _ c.0 h.fits)
+
+pub holds_after : (p : Contents) → IsRead p → (steps : List Step) (s : State) → IsRun p steps s → HoldsAt p s → HoldsAt p (end_of p steps s)
+holds_after p good [] s h f = f
+holds_after p good (a ∷ steps) s h f = holds_after p good steps (after p a s) h.1 (step_holds p good a s h.0 f)
 
 pub start_holds : (p : Contents) (first : ℕ) → first ≤ 255 → HoldsAt p (start p first)
 start_holds p first f =

@@ -36,6 +36,13 @@ sub_take (suc k) xs [] h = h
 sub_take (suc k) xs (y ∷ ys) (inl h) = inl (sub_take k xs ys h)
 sub_take (suc k) xs (y ∷ ys) (inr (zs, e, h)) = inr (zs, e, sub_take k zs ys h)
 
+-- of a front, of the front with one more
+pub sub_more : {X : Type 0} (k : ℕ) (xs ys : List X) → IsSubsequenceOf xs (take k ys) → IsSubsequenceOf xs (take (suc k) ys)
+sub_more zero xs ys h = rw h (sub_none (take 1 ys))
+sub_more (suc k) xs [] h = h
+sub_more (suc k) xs (y ∷ ys) (inl h) = inl (sub_more k xs ys h)
+sub_more (suc k) xs (y ∷ ys) (inr (zs, e, h)) = inr (zs, e, sub_more k zs ys h)
+
 -- one more, on both sides
 pub sub_push : {X : Type 0} (w : X) (xs ys : List X) → IsSubsequenceOf xs ys → IsSubsequenceOf (xs ++ w ∷ []) (ys ++ w ∷ [])
 sub_push {X} w xs [] h = inr ([], ap (λ (l : List X). l ++ w ∷ []) h, refl)

@@ -10,11 +10,11 @@ use Rattle.a429_link.specs.Observer.{HasGrant}
 use Rattle.a429_link.specs.declared.why.Why.{Why}
 use Rattle.a429_link.specs.Why.{are_half, block_in, why_bad}
 
-mapped_some : (o : Option (List ℕ)) (n : ℕ) → is_some (option_map (λ bytes. n ∷ bytes) o) ≡ is_some o
+pub mapped_some : (o : Option (List ℕ)) (n : ℕ) → is_some (option_map (λ bytes. n ∷ bytes) o) ≡ is_some o
 mapped_some None n = refl
 mapped_some (Some bs) n = refl
 
-mapped_some_too : (o : Option (List ℕ)) (n : ℕ) → is_some (if_some (option_map (λ bytes. n ∷ bytes) o)) ≡ is_some o
+pub mapped_some_too : (o : Option (List ℕ)) (n : ℕ) → is_some (if_some (option_map (λ bytes. n ∷ bytes) o)) ≡ is_some o
 mapped_some_too None n = refl
 mapped_some_too (Some bs) n = refl
 

@@ -12,7 +12,7 @@ use Rattle.a429_profile.specs.Fault.{first_or}
 use Rattle.a429_profile.specs.Labels.{entries_fault, entry_fault, table_of}
 
 -- what is left begins with the next
-next : {X : Type 0} (vs : List X) (i : ℕ) (v : X) → i < length vs → v ≡ get_or vs i v → drop i vs ≡ v ∷ drop (i + 1) vs
+pub next : {X : Type 0} (vs : List X) (i : ℕ) (v : X) → i < length vs → v ≡ get_or vs i v → drop i vs ≡ v ∷ drop (i + 1) vs
 next vs i v h e = drop_more vs i v h ∙ ap (λ x. x ∷ drop (i + 1) vs) (sym e)
 
 -- a table without a fault leaves the faults of those after it

@@ -1,6 +1,6 @@
 -- The records of a line, from one or two reads of it.
-use Rattle.std.proofs.Common.{◌≡◌, ◌∙◌, ℕ, ◌<◌, ◌-◌, List, [], ◌∷◌, length, length-drop, take, drop, Some, None, arith, add-one, sym, ap, Bor, refl, true, false}
-use Rattle.std.proofs.lemmas.List.{take_all}
+use Rattle.std.proofs.Common.{◌≡◌, ◌∙◌, ℕ, ◌<◌, ◌-◌, List, [], ◌∷◌, length, take, drop, Some, None, arith, add-one, sym, ap, Bor, refl, true, false}
+use Rattle.std.proofs.lemmas.List.{take_rest}
 use Rattle.csv.specs.Machine.{Read, next_record}
 use Rattle.csv.specs.Reading.{default_config, records, records_from, Reached, Ready, ReadRecord, source_of, strip_bom, reader_trim}
 use Rattle.csv.specs.declared.reader.Reader.{Reader}
@@ -102,21 +102,17 @@ read_two a b d line f h g r t =
 pub no_row : (text : List ℕ) (fields : List (List ℕ)) → ScansTo st.StartRecord text fields None → [] ≡ rows_in (records default_config text)
 no_row text fields h = rw (records-none text h) refl
 
--- what is left after a record
-after : (text : List ℕ) (n : ℕ) → take (length text - n) (drop n text) ≡ drop n text
-after text n = take_all (length text - n) (drop n text) (simp length-drop (omega arith))
-
 pub one_row : (text : List ℕ) (fields others : List (List ℕ)) (end : RecordEnd) → ScansTo st.StartRecord text fields (Some end)
     → ScansTo (state_of end.place) (take (length text - end.len) (drop end.len text)) others None
     → Some fields ∷ [] ≡ rows_in (records default_config text)
 one_row text fields others end h t =
-    rw (records-one text (fields, state_of end.place, drop end.len text) h.1 (rw (after text end.len) at t)) refl
+    rw (records-one text (fields, state_of end.place, drop end.len text) h.1 (rw (take_rest text end.len) at t)) refl
 
 pub several_rows : (text : List ℕ) (fields others : List (List ℕ)) (end stop : RecordEnd) → ScansTo st.StartRecord text fields (Some end)
     → ScansTo (state_of end.place) (take (length text - end.len) (drop end.len text)) others (Some stop)
     → None ∷ [] ≡ rows_in (records default_config text)
 several_rows text fields others end stop h t =
     let rest = drop end.len text in
-    let next = rw (after text end.len) at t in
+    let next = rw (take_rest text end.len) at t in
     let two = records-more text (fields, state_of end.place, rest) (others, state_of stop.place, drop stop.len rest) h.1 next.1 in
     rw two.1 refl

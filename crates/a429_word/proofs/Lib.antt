@@ -1,3 +1,6 @@
+pub mod ListFacts
+pub mod CountFacts
+pub mod Outcomes
 pub mod Powers
 pub mod Tables
 pub mod WordBits

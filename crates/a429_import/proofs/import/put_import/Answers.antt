@@ -2,9 +2,10 @@ use Rattle.std.proofs.Common.{◌+◌, ◌<◌, ◌^◌, ◌∷◌, ◌++◌, []
 use Rattle.std.proofs.lemmas.Bool.{false_from_ne_true}
 use Rattle.a429_word.specs.Tally.{unread}
 use Rattle.a429_word.proofs.SheetFacts.{◌▹◌}
+use Rattle.a429_word.proofs.Outcomes.{if_ok_map, if_err_map}
 use Rattle.a429_record.specs.Handed.{IsLineHanded, Loses}
 use Rattle.a429_record.specs.Lines.{pending_of}
-use Rattle.a429_import.proofs.ImportFacts.{err_then, gave_all, gave_more, gave_no_header, gave_these, lots_text-more, ok_then, stops_at}
+use Rattle.a429_import.proofs.ImportFacts.{gave_all, gave_more, gave_no_header, gave_these, lots_text-more, stops_at}
 use Rattle.a429_import.proofs.import.put_import.Goals as goal
 
 pub returns-then-not-more-clause-all : goal.returns-then-not-more-clause-all
@@ -14,7 +15,7 @@ returns-then-not-more-clause-all g c =
     let bytes = unread g.R.Read.remaining c.args.export.now in
     let left = pending_of g.R.Read.remaining c.lines.lines c.lines.export in
     let end = c.in-Ok-next_line.ensures.end c.if-not-more.true in
-    ok_then c.at_end.result _ _ c.at_end.ensures.ok (λ n is. rw is.0 (record {
+    if_ok_map c.at_end.result c.at_end.ensures.ok (λ n is. rw is.0 (record {
       lots = i.lots;
       says = i.says;
       counted = i.counted;
@@ -29,7 +30,7 @@ returns-then-not-more-clause-until g c =
     let bytes = unread g.R.Read.remaining c.args.export.now in
     let left = pending_of g.R.Read.remaining c.lines.lines c.lines.export in
     let end = c.in-Ok-next_line.ensures.end c.if-not-more.true in
-    err_then c.at_end.result _ _ c.at_end.ensures.err (λ f is. rw is.0 (record {
+    if_err_map c.at_end.result c.at_end.ensures.err (λ f is. rw is.0 (record {
       lots = i.lots;
       says = i.says;
       stops = gave_no_header m bytes left i.lots c.lines.progress i.gave end is.1;

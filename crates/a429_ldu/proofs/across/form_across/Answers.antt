@@ -1,9 +1,10 @@
 use Rattle.std.proofs.Common.{sym, ap, ◌∙◌}
 use Rattle.a429_word.specs.declared.bus.Bus.{Bus}
+use Rattle.a429_word.proofs.Outcomes.{not_some}
 use Rattle.a429_profile.specs.declared.codes.Codes.{Codes}
 use Rattle.a429_ldu.specs.Across.{other_line, with_destination}
 use Rattle.a429_ldu.specs.Form.{fields_in, form_on}
-use Rattle.a429_ldu.proofs.AcrossFacts.{not_some, some_across}
+use Rattle.a429_ldu.proofs.AcrossFacts.{some_across}
 use Rattle.a429_ldu.proofs.across.form_across.Goals as goal
 
 pub returns : goal.returns
