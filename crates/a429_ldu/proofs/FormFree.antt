@@ -1,5 +1,5 @@
 -- Free words, by tests; and that the words of the table are none of them.
-use Rattle.std.proofs.Common.{◌≡◌, ℕ, zero, suc, ◌%◌, ◌<◌, inl, inr, Bool, true, false, not, nat_eq, ◌&&◌, ◌||◌, ◌==◌, List, [], ◌∷◌, length, Contains, refl, sym, ap, ◌∙◌, subst, arith, slice_index_or}
+use Rattle.std.proofs.Common.{◌≡◌, ℕ, zero, suc, ◌%◌, ◌<◌, inl, inr, Bool, true, false, not, nat_eq, ◌&&◌, ◌||◌, ◌==◌, List, [], ◌∷◌, length, Contains, refl, sym, ap, ◌∙◌, subst, arith, slice_index_or, None}
 use Rattle.std.specs.Bool.{Decides}
 use Rattle.std.specs.List.{list_any}
 use Rattle.std.proofs.lemmas.Bool.{eq-eqb, eqb-true, or_cases, or_left, or_right, or_from, and_left, and_right, not_from_true}
@@ -9,10 +9,14 @@ use Rattle.a429_word.specs.declared.bus.Bus.{Bus}
 use Rattle.a429_profile.specs.declared.codes.Codes.{Codes}
 use Rattle.a429_ldu.specs.declared.forms.Form.{Form}
 use Rattle.a429_ldu.specs.declared.forms.Form.TheVariants.{Rts, Cts, Ack, Nak, Sot, Part, Eot}
-use Rattle.a429_ldu.specs.Form.{Fields, fields_of, row, data_row, IsInRange, address_of, IsForm, IsFree, is_free}
+use Rattle.a429_ldu.specs.Form.{Fields, fields_of, row, data_row, IsInRange, address_of, IsForm, IsFree, is_free, form_of}
 use Rattle.a429_ldu.specs.Semis.{AreSemis}
 use Rattle.a429_ldu.proofs.FormDistinct.{AreDistinct, IsNone}
 use Rattle.a429_ldu.proofs.FormTests.{turned}
+
+-- a word that is free has no form
+pub free_none : (c : Codes) (b : Bus) (w : ℕ) → is_free c b w ≡ true → form_of c b w ≡ None
+free_none c b w e = rw e refl
 
 -- ---- the tests decide
 

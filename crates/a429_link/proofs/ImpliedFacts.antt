@@ -15,10 +15,10 @@ use Rattle.a429_link.specs.declared.why.Why.{Why}
 use Rattle.a429_link.specs.declared.doing.Crossing.{Crossing}
 use Rattle.a429_link.specs.declared.doing.Doing.{Doing}
 use Rattle.a429_link.specs.declared.doing.Doing.TheVariants as doing
-use Rattle.a429_link.specs.Sink.{Block, Granted, InBlock, MayAnswer, OwesAck, OwesClear, OwesNak, Quiet, Sink, SinkPhase, accepts_owed, emptied, in_phase, is_same, is_same_file, number_of, put, without_files}
+use Rattle.a429_link.specs.Sink.{Block, Granted, InBlock, MayAnswer, OwesAck, OwesClear, OwesNak, Quiet, Sink, SinkPhase, accepts_owed, emptied, in_phase, is_same, is_same_file, number_of, put, without_files, Number}
 use Rattle.a429_link.specs.Observer.{AllowsForm, Observer, at_first, observed, sees, sees_form}
 use Rattle.a429_link.specs.Trace.{files_of, sink_after, sink_at_first, sink_sees}
-use Rattle.a429_link.specs.Implied.{Implied, acknowledging, crossing_in, crossings_of, does, doing_in, implied, implied_at_first, implies, implies_form, sink_sees_form, size_of, sizes_of, why_at, with_counts}
+use Rattle.a429_link.specs.Implied.{Implied, acknowledging, crossing_in, crossings_of, does, doing_in, implied, implied_at_first, implies, implies_form, sink_sees_form, size_of, sizes_of, why_at, with_counts, observer_of}
 use Rattle.a429_link.proofs.Message.{Message}
 use Rattle.a429_link.proofs.RunTraces.{see_item}
 use Rattle.a429_link.proofs.ObserverRefuses.{seeing, sees_on_as, sees_same}
@@ -217,3 +217,16 @@ files_stay_without p items i e =
     by : (b : Bus) (k : Sink) → (sink_sees_form p b i.word None k).received.files ≡ k.received.files
     by bus.A k = refl
     by bus.B k = refl
+
+-- what is implied has the observer of the same words
+pub observer_again : (p : Contents) (items : List Seen) → observer_of (implied p items implied_at_first) ≡ observed p items at_first
+observer_again p items =
+    let o = observed p items at_first in
+    let k = sink_after p items sink_at_first in
+    let last : k.last ≡ o.last = sym (ap (λ (s : Sink). s.last) (observed_sink p items)) in
+    let count : k.count ≡ o.count = sym (ap (λ (s : Sink). s.count) (observed_sink p items)) in
+    let phase : k.phase ≡ o.phase = sym (ap (λ (s : Sink). s.phase) (observed_sink p items)) in
+    ap observer_of (implied_sink p items)
+    ∙ ap (λ (l : Option Number). record { last = l; count = k.count; phase = k.phase; begun = o.begun; parts = o.parts }) last
+    ∙ ap (λ (n : ℕ). record { last = o.last; count = n; phase = k.phase; begun = o.begun; parts = o.parts }) count
+    ∙ ap (λ (f : SinkPhase). record { last = o.last; count = o.count; phase = f; begun = o.begun; parts = o.parts }) phase

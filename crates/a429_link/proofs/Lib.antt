@@ -24,6 +24,7 @@ pub mod CarryFacts
 pub mod LossesFacts
 pub mod LinkCalls
 pub mod ObserverBlock
+pub mod ObserverMore
 pub mod ObserverSight
 pub mod CleanRuns
 pub mod CleanOffers

@@ -3,6 +3,7 @@ use Rattle.std.proofs.Common.{◌≡◌, ◌⊎◌, ℕ, suc, ◌+◌, ◌%◌, 
 use Rattle.a429_word.specs.declared.bus.Bus.{Bus}
 use Rattle.a429_word.specs.declared.bus.Bus.TheVariants as bus
 use Rattle.a429_word.proofs.Outcomes.{some_value}
+use Rattle.a429_word.proofs.ListFacts.{no_middle}
 use Rattle.a429_profile.specs.Profile.{Contents, IsProfile}
 use Rattle.a429_ldu.specs.declared.forms.Form.{Form}
 use Rattle.a429_ldu.specs.declared.forms.Form.TheVariants as form
@@ -378,15 +379,11 @@ found p None left k seen before i more al e here next = next before al e
 found p (Some j) left k seen [] i more al e here next = let same : j ≡ i = cc in here (ap (λ x. Some x) same) e
 found p (Some j) left k seen (b ∷ before) i more al e here next = let tail : left ≡ before ++ i ∷ more = cc in next before al.1 tail
 
-no_more : (before : List Seen) (i : Seen) (more : List Seen) → [] ≡ before ++ i ∷ more → ⊥
-no_more [] i more e = cc e
-no_more (b ∷ before) i more e = cc e
-
 to_request : (p : Contents)
     → IsRead p → (steps : List Step) (s : State) (o : Received) (fs : List FileBytes) (k : Sink) (seen : List Message) (before : List Seen)
     (i : Seen) (n : ℕ) (more : List Seen) → asks i.bus (form_of p.codes i.bus i.word) ≡ Some n → IsRun p steps s → Books p s o fs
     → TracksAt p s → Alike p s k → AllAllowed p (trace steps) k seen → trace steps ≡ before ++ i ∷ more → AtRequest p (i ∷ more)
-to_request p good [] s o fs k seen before i n more q run b t m al e = absurd (no_more before i more e)
+to_request p good [] s o fs k seen before i n more q run b t m al e = absurd (no_middle before i more e)
 to_request p good (a ∷ steps) s o fs k seen before i n more q run b t m al e =
     let later : Books p (after p a s) (offers p a s o) (settles p a s o fs) =
     record { holds = step_holds p good a s run.0 b.holds; crosses = step_crosses p good a s o fs run.0 b.holds b.crosses } in

@@ -19,7 +19,7 @@ mapped_some_too None n = refl
 mapped_some_too (Some bs) n = refl
 
 -- semi-octets are those of bytes where they are even in number
-pairs_even : (ss : List ℕ) → is_some (paired ss) ≡ not (eqb (length ss % 2) 1)
+pub pairs_even : (ss : List ℕ) → is_some (paired ss) ≡ not (eqb (length ss % 2) 1)
 pairs_even [] = refl
 pairs_even (l ∷ []) = refl
 pairs_even (l ∷ h ∷ ss) =

@@ -13,6 +13,11 @@ some_within [] k l = absurd (omega arith)
 some_within (x ∷ xs) zero l = (x, refl)
 some_within (x ∷ xs) (suc k) l = some_within xs k (omega arith)
 
+-- a list with an element has one
+pub no_middle : {X : Type 0} (xs : List X) (x : X) (ys : List X) → [] ≡ xs ++ x ∷ ys → ⊥
+no_middle [] x ys e = cc e
+no_middle (z ∷ xs) x ys e = cc e
+
 -- where there is none, the list has ended
 pub none_past : {X : Type 0} (xs : List X) (k : ℕ) → slice_get xs k ≡ None → length xs ≤ k
 none_past [] k e = omega arith
