@@ -1,9 +1,10 @@
 -- Letters are read as the steps that they stand for.
 use Rattle.std.proofs.Common.{◌≡◌, ◌==◌, ◌∙◌, inl, inr, if◌then◌else◌, ℕ, [], ◌∷◌, Option, Some, refl, sym, ap}
+use Rattle.std.proofs.lemmas.Option.{same_Some}
 use Rattle.a429_cert.specs.declared.act.Act.{Act}
 use Rattle.a429_cert.specs.declared.act.Act.TheVariants.{Sent, SentLost, TimeOut, TakeAnswer, LoseAnswer, SinkTakes, Silent, Answered, FreeSeen, GiveUp}
 use Rattle.a429_cert.specs.Act.{act_text, act_in}
-use Rattle.a429_cert.proofs.Options.{some_is, split}
+use Rattle.a429_cert.proofs.Options.{split}
 use Rattle.a429_cert.proofs.FieldNumbers.{is_same}
 
 -- the byte of a letter
@@ -36,7 +37,7 @@ named : (b c : ℕ) (x a : Act) (others : Option Act)
     → act_text x ≡ c ∷ [] → (if b == c then Some x else others) ≡ Some a → (others ≡ Some a → b ∷ [] ≡ act_text a) → b ∷ [] ≡ act_text a
 named b c x a others spelled e more =
     elim (split (b == c) (Some x) others a e) [
-      | inl p ↦ ap (λ n. n ∷ []) (is_same b c p.0) ∙ sym spelled ∙ ap act_text (some_is x a p.1)
+      | inl p ↦ ap (λ n. n ∷ []) (is_same b c p.0) ∙ sym spelled ∙ ap act_text (same_Some x a p.1)
       | inr r ↦ more r
     ]
 

@@ -2,6 +2,7 @@
 use Rattle.std.proofs.Common.{◌≡◌, ◌≢◌, ◌⊎◌, inl, inr, ◌≤◌, ◌+◌, ◌-◌, ◌∙◌, ◌++◌, ◌∷◌, arith, ℕ, suc, List, [], length, length-append, drop, Bool, true, false, Option, Some, None, slice_get, Err, refl, sym, ap, subst, append-nil}
 use Rattle.std.proofs.lemmas.List.{drop-drop}
 use Rattle.std.specs.Io.KnownBytes.{Keeps, prepend_known}
+use Rattle.std.proofs.lemmas.Option.{same_Some}
 use Rattle.a429_profile.specs.Profile.{Contents}
 use Rattle.a429_link.specs.declared.file.FileBytes.{FileBytes}
 use Rattle.a429_link.specs.State.{State}
@@ -27,7 +28,6 @@ use Rattle.a429_cert.specs.StreamEnd.{EndsLate, GivesNone}
 use Rattle.a429_cert.specs.StreamHead.{ReadsAtMost, RefusesHead}
 use Rattle.a429_cert.specs.StreamExplained.{reached, WhereBothKnown, WantsNext, Delivers}
 use Rattle.a429_cert.specs.BreakOff.{halted, Readers, shelved, IsBetweenLines, IsAtLine, IsAtFile, IsAtEntry, IsPlace, BreaksOff}
-use Rattle.a429_cert.proofs.Options.{some_is}
 use Rattle.a429_cert.proofs.EarlierFiles.{given_out}
 use Rattle.a429_cert.proofs.StreamFacts.{put_on}
 use Rattle.a429_cert.proofs.StreamStands.{AreLeftAfter, Stands, lines_behind, goes_on}
@@ -44,7 +44,7 @@ has_read : (text : List ℕ) (k : ℕ) (ahead : List ℕ) (left : Option (List �
 has_read text k ahead None h = absurd (cc h.1)
 has_read text k ahead (Some left) h =
     let n : 2 + k ≡ k + 2 = omega arith in
-    ap certificate_lines (some_is (ahead ++ left) h.0 h.1) ∙ h.2 ∙ drop-drop k 2 (certificate_lines text)
+    ap certificate_lines (same_Some (ahead ++ left) h.0 h.1) ∙ h.2 ∙ drop-drop k 2 (certificate_lines text)
     ∙ ap (λ m. drop m (certificate_lines text)) n
 
 -- no line was handed out
@@ -52,7 +52,7 @@ keeps_behind : (lines : List (Option (List ℕ))) (k : ℕ) (old new : Option (L
     → Keeps old new → AreLeftAfter lines k old → AreLeftAfter lines k new
 keeps_behind lines k None new keeps h = absurd (cc h.1)
 keeps_behind lines k (Some xs) None keeps h = absurd keeps
-keeps_behind lines k (Some xs) (Some ys) keeps h = (ys, refl, ap certificate_lines (keeps ∙ some_is xs h.0 h.1) ∙ h.2)
+keeps_behind lines k (Some xs) (Some ys) keeps h = (ys, refl, ap certificate_lines (keeps ∙ same_Some xs h.0 h.1) ∙ h.2)
 
 -- one was, which stays where it is if it has no end
 unended_kept : (old new : Option (List ℕ)) → GivesLine old new None true → Keeps old new

@@ -1,6 +1,6 @@
 -- Lines that are passed one after the other: the run that they list, and what it says of a certificate.
 use Rattle.std.proofs.Common.{◌≡◌, ℕ, zero, suc, ◌+◌, ◌≤◌, List, [], ◌∷◌, ◌++◌, map, take, drop, length, Option, Some, None, option_map, slice_get, refl, sym, ap, ◌∙◌, subst, arith, append-nil}
-use Rattle.std.proofs.lemmas.Option.{slice_get_within}
+use Rattle.std.proofs.lemmas.Option.{slice_get_within, same_Some, slice_get-map}
 use Rattle.std.proofs.lemmas.List.{take_all, drop-drop}
 use Rattle.a429_word.proofs.ListFacts.{next_item, none_past}
 use Rattle.a429_profile.specs.Profile.{Contents, IsProfile}
@@ -19,7 +19,6 @@ use Rattle.a429_cert.specs.declared.act.Act.TheVariants as act
 use Rattle.a429_cert.specs.declared.line.CertLine.{CertLine}
 use Rattle.a429_cert.specs.declared.line.CertLine.TheVariants.{First, Load, Moved}
 use Rattle.a429_cert.specs.Line.{spelling, SpellsLine}
-use Rattle.a429_cert.proofs.Options.{some_is}
 use Rattle.a429_cert.specs.declared.version.Version.{Version}
 use Rattle.a429_cert.specs.declared.explained.Head.{Head}
 use Rattle.a429_cert.specs.Lines.{certificate_lines}
@@ -72,33 +71,33 @@ lists_run p (Some l ∷ lines) (b ∷ steps) s h = (h.0.can, lists_run p lines s
 act_used : (x : Act) (a : Step) (items : List Seen) (i : ℕ) (next : Option Seen)
     → slice_get items i ≡ next → step_with x next ≡ Some a → take (i + uses_of x) items ≡ take i items ++ trace (a ∷ [])
 act_used act.Sent a items i None g e = absurd (cc e)
-act_used act.Sent a items i (Some w) g e = subst (λ b. take (i + 1) items ≡ take i items ++ trace (b ∷ [])) (some_is _ a e)
+act_used act.Sent a items i (Some w) g e = subst (λ b. take (i + 1) items ≡ take i items ++ trace (b ∷ [])) (same_Some _ a e)
     (let n : i + 1 ≡ suc i = omega arith in rw n (next_item i w items g))
 act_used act.Answered a items i None g e = absurd (cc e)
-act_used act.Answered a items i (Some w) g e = subst (λ b. take (i + 1) items ≡ take i items ++ trace (b ∷ [])) (some_is _ a e)
+act_used act.Answered a items i (Some w) g e = subst (λ b. take (i + 1) items ≡ take i items ++ trace (b ∷ [])) (same_Some _ a e)
     (let n : i + 1 ≡ suc i = omega arith in rw n (next_item i w items g))
 act_used act.FreeSeen a items i None g e = absurd (cc e)
-act_used act.FreeSeen a items i (Some w) g e = subst (λ b. take (i + 1) items ≡ take i items ++ trace (b ∷ [])) (some_is _ a e)
+act_used act.FreeSeen a items i (Some w) g e = subst (λ b. take (i + 1) items ≡ take i items ++ trace (b ∷ [])) (same_Some _ a e)
     (let n : i + 1 ≡ suc i = omega arith in rw n (next_item i w items g))
-act_used act.SentLost a items i next g e = subst (λ b. take (i + 0) items ≡ take i items ++ trace (b ∷ [])) (some_is _ a e)
+act_used act.SentLost a items i next g e = subst (λ b. take (i + 0) items ≡ take i items ++ trace (b ∷ [])) (same_Some _ a e)
     (let n : i + 0 ≡ i = omega arith in rw n (sym (append-nil (take i items))))
-act_used act.TimeOut a items i next g e = subst (λ b. take (i + 0) items ≡ take i items ++ trace (b ∷ [])) (some_is _ a e)
+act_used act.TimeOut a items i next g e = subst (λ b. take (i + 0) items ≡ take i items ++ trace (b ∷ [])) (same_Some _ a e)
     (let n : i + 0 ≡ i = omega arith in rw n (sym (append-nil (take i items))))
-act_used act.TakeAnswer a items i next g e = subst (λ b. take (i + 0) items ≡ take i items ++ trace (b ∷ [])) (some_is _ a e)
+act_used act.TakeAnswer a items i next g e = subst (λ b. take (i + 0) items ≡ take i items ++ trace (b ∷ [])) (same_Some _ a e)
     (let n : i + 0 ≡ i = omega arith in rw n (sym (append-nil (take i items))))
-act_used act.LoseAnswer a items i next g e = subst (λ b. take (i + 0) items ≡ take i items ++ trace (b ∷ [])) (some_is _ a e)
+act_used act.LoseAnswer a items i next g e = subst (λ b. take (i + 0) items ≡ take i items ++ trace (b ∷ [])) (same_Some _ a e)
     (let n : i + 0 ≡ i = omega arith in rw n (sym (append-nil (take i items))))
-act_used act.SinkTakes a items i next g e = subst (λ b. take (i + 0) items ≡ take i items ++ trace (b ∷ [])) (some_is _ a e)
+act_used act.SinkTakes a items i next g e = subst (λ b. take (i + 0) items ≡ take i items ++ trace (b ∷ [])) (same_Some _ a e)
     (let n : i + 0 ≡ i = omega arith in rw n (sym (append-nil (take i items))))
-act_used act.Silent a items i next g e = subst (λ b. take (i + 0) items ≡ take i items ++ trace (b ∷ [])) (some_is _ a e)
+act_used act.Silent a items i next g e = subst (λ b. take (i + 0) items ≡ take i items ++ trace (b ∷ [])) (same_Some _ a e)
     (let n : i + 0 ≡ i = omega arith in rw n (sym (append-nil (take i items))))
-act_used act.GiveUp a items i next g e = subst (λ b. take (i + 0) items ≡ take i items ++ trace (b ∷ [])) (some_is _ a e)
+act_used act.GiveUp a items i next g e = subst (λ b. take (i + 0) items ≡ take i items ++ trace (b ∷ [])) (same_Some _ a e)
     (let n : i + 0 ≡ i = omega arith in rw n (sym (append-nil (take i items))))
 
 line_used : (l : CertLine) (a : Step) (items : List Seen) (i : ℕ)
     → step_of l (slice_get items i) ≡ Some a → take (i + uses l) items ≡ take i items ++ trace (a ∷ [])
 line_used (First file) a items i e = absurd (cc e)
-line_used (Load u) a items i e = subst (λ b. take (i + 0) items ≡ take i items ++ trace (b ∷ [])) (some_is _ a e)
+line_used (Load u) a items i e = subst (λ b. take (i + 0) items ≡ take i items ++ trace (b ∷ [])) (same_Some _ a e)
     (let n : i + 0 ≡ i = omega arith in rw n (sym (append-nil (take i items))))
 line_used (Moved m) a items i e = act_used m.act a items i (slice_get items i) refl e
 
@@ -187,7 +186,7 @@ passes_on p first = passes_from p (start p first)
 header_is : {X : Type 0} (xs : List X) (a b : X) → slice_get xs 0 ≡ Some a → slice_get xs 1 ≡ Some b → xs ≡ a ∷ (b ∷ drop 2 xs)
 header_is [] a b e h = absurd (cc e)
 header_is (x ∷ []) a b e h = absurd (cc h)
-header_is (x ∷ (y ∷ xs)) a b e h = rw (some_is x a e, some_is y b h) refl
+header_is (x ∷ (y ∷ xs)) a b e h = rw (same_Some x a e, same_Some y b h) refl
 
 -- lines that are all passed, with all entries used
 pub explains_all : (p : Contents) (certificate : List ℕ) (items : List Seen) (d : Head) (k i : ℕ) (s : State)
@@ -269,19 +268,13 @@ pub none_of : {V : Type 0} (r : Option V) → ((x : V) → r ≡ Some x → ⊥)
 none_of None h = refl
 none_of (Some x) h = absurd (h x refl)
 
--- the same of the lines as a version reads them
-get_map : {X Y : Type 0} (f : X → Y) (xs : List X) (k : ℕ) → slice_get (map f xs) k ≡ option_map f (slice_get xs k)
-get_map f [] k = refl
-get_map f (x ∷ xs) zero = refl
-get_map f (x ∷ xs) (suc k) = get_map f xs k
-
 pub line_read : (v : Version) (lines : List (Option (List ℕ))) (k : ℕ) (line : Option (List ℕ))
     → slice_get lines k ≡ Some line → slice_get (map (read_as v) lines) k ≡ Some (read_as v line)
-line_read v lines k line e = get_map (read_as v) lines k ∙ ap (option_map (read_as v)) e
+line_read v lines k line e = slice_get-map (read_as v) lines k ∙ ap (option_map (read_as v)) e
 
 pub none_read : (v : Version) (lines : List (Option (List ℕ))) (k : ℕ)
     → slice_get lines k ≡ None → slice_get (map (read_as v) lines) k ≡ None
-none_read v lines k e = get_map (read_as v) lines k ∙ ap (option_map (read_as v)) e
+none_read v lines k e = slice_get-map (read_as v) lines k ∙ ap (option_map (read_as v)) e
 
 pub left_on : (lines : List (Option (List ℕ))) (left more : List ℕ) (k : ℕ) → certificate_lines left ≡ drop k lines
     → certificate_lines more ≡ drop 1 (certificate_lines left) → certificate_lines more ≡ drop (suc k) lines

@@ -1,6 +1,7 @@
 -- The first fault of a certificate, where its lines are taken one after the other.
 use Rattle.std.proofs.Common.{◌≡◌, ◌≢◌, inr, ℕ, ◌+◌, ◌≤◌, ◌<◌, List, take, drop, length, Option, Some, None, IsSome, option_map, option_and_then, ok_or, Result, IfErr, slice_get, refl, sym, ap, ◌∙◌, subst, arith}
 use Rattle.std.proofs.lemmas.List.{drop-drop}
+use Rattle.std.proofs.lemmas.Option.{same_Some}
 use Rattle.a429_word.proofs.ListFacts.{some_within}
 use Rattle.a429_profile.specs.Profile.{Contents}
 use Rattle.a429_link.specs.declared.seen.Seen.{Seen}
@@ -16,7 +17,6 @@ use Rattle.a429_cert.specs.Lines.{certificate_lines}
 use Rattle.a429_cert.specs.Version.{version_line, step_lines}
 use Rattle.a429_cert.specs.Explained.{Reaches}
 use Rattle.a429_cert.specs.Fault.{at_line, IsVersioned, HasHead, IsFaultOfLine, IsFaultAt, IsLaterFault, IsFirstCertFault, Begins, file_in}
-use Rattle.a429_cert.proofs.Options.{some_is}
 use Rattle.a429_cert.proofs.ReadingFacts.{one-line}
 use Rattle.a429_cert.proofs.ExplainedFacts.{drop_get}
 
@@ -41,7 +41,8 @@ first_err f q x text l None r e g reads is same =
     rw same (λ h. (
       refl,
       λ first byte k. no_first text l None reads is refl first byte
-          (some_is text (spelling (First first)) (sym g ∙ some_is (f x) (Some (spelling (First first))) (sym (ap (option_map f) e) ∙ k))),
+          (same_Some text (spelling (First first))
+          (sym g ∙ same_Some (f x) (Some (spelling (First first))) (sym (ap (option_map f) e) ∙ k))),
     ))
 
 -- ---- the first two lines

@@ -12,6 +12,8 @@ use Rattle.std.proofs.lemmas.List.{length-take-le, take_all}
 use Rattle.std.proofs.lemmas.List.Folds.{list_all_at, list_all_more}
 use Rattle.std.proofs.Math.Nat.{mod-eq_of_lt, pow-le-pow_right}
 use Rattle.a429_word.specs.Digits.{numeral, hex_text, IsHexWord, ReadsHex}
+use Rattle.a429_word.proofs.DigitsFacts.{digit_value-digit_glyph}
+use Rattle.a429_word.proofs.Powers.{pow-16_pos}
 use Rattle.a429_cert.specs.Field.{hex_digits_in, hex_digit_in, is_digit, is_not_lower, when}
 use Rattle.a429_cert.proofs.Options.{when_some, when_none}
 
@@ -24,9 +26,6 @@ is_digit-value base b h = grind (arith, nat_tests)
 glyph-value : (b : ℕ) → is_digit 16 b ≡ true → digit_glyph true (digit_value b) ≡ b
 glyph-value b h = grind (arith, nat_tests)
 
-value-glyph : (d : ℕ) → d < 16 → digit_value (digit_glyph true d) ≡ d
-value-glyph d h = grind (arith, nat_tests)
-
 is_digit-glyph : (d : ℕ) → d < 16 → is_digit 16 (digit_glyph true d) ≡ true
 is_digit-glyph d h = grind (arith, nat_tests)
 
@@ -35,10 +34,6 @@ digit-upper b up h = grind (arith, nat_tests)
 
 decimal_digit : (b : ℕ) → digit_value b < 10 → is_digit 10 b ≡ true
 decimal_digit b h = grind (arith, nat_tests)
-
-pow-pos : (k : ℕ) → 0 < 16 ^ k
-pow-pos zero = omega arith
-pow-pos (suc k) = rw pow-suc (omega (arith, pow-pos k))
 
 -- ---- texts of digits
 
@@ -79,7 +74,7 @@ digits-numeral (suc k) n = rw (is_digit-glyph (n / 16 ^ k % 16) (omega arith)) (
 mod-next : (k n : ℕ) → n % 16 ^ suc k ≡ n / 16 ^ k % 16 * 16 ^ k + n % 16 ^ k
 mod-next k n =
     let p = 16 ^ k in
-    let some : 0 < p = pow-pos k in
+    let some : 0 < p = pow-16_pos k in
     let q = n / p in
     let r = n % p in
     let e = q / 16 in
@@ -97,7 +92,8 @@ value-numeral zero n = omega arith
 value-numeral (suc k) n =
     let d = n / 16 ^ k % 16 in
     let small : d < 16 = omega arith in
-    first-digit (digit_glyph true d) (numeral 16 k n) ∙ rw (value-glyph d small, length-numeral k n, value-numeral k n) (sym (mod-next k n))
+    first-digit (digit_glyph true d) (numeral 16 k n)
+    ∙ rw (digit_value-digit_glyph d small, length-numeral k n, value-numeral k n) (sym (mod-next k n))
 
 -- digits of one value are the same
 pub same-digits : (xs ys : List ℕ) → length xs ≡ length ys → list_all (is_digit 16) xs ≡ true → list_all (is_digit 16) ys ≡ true

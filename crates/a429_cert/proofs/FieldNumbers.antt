@@ -9,11 +9,12 @@ use Rattle.std.proofs.lemmas.Fmt.{decimal_digit, decimal_step}
 use Rattle.std.proofs.lemmas.Int.Digits.{digits_value-lt}
 use Rattle.std.proofs.lemmas.List.{append-nil, length-append, length-take-le, take-append-drop, take_at, drop_at}
 use Rattle.std.proofs.Math.Nat.{mod-eq_of_lt}
+use Rattle.std.proofs.lemmas.Option.{same_Some}
 use Rattle.a429_word.specs.Digits.{numeral}
 use Rattle.a429_cert.specs.Field.{field, when, with_rest, is_digit, hex_digits_in, hex_in, decimal_digit_in, with_digit, with_next_digit, decimal_in, last_decimal_in}
 use Rattle.a429_cert.proofs.FieldDigits.{AllDigits-from, length-numeral, digits-numeral, value-numeral, numeral-value}
 use Rattle.a429_cert.proofs.FieldFacts.{IsNext, IsSpelling, last-back, field-only}
-use Rattle.a429_cert.proofs.Options.{bind_some, when_some, some_is, parted, either}
+use Rattle.a429_cert.proofs.Options.{bind_some, when_some, parted, either}
 
 -- ---- tests
 
@@ -130,7 +131,7 @@ unfolding with_next_digit
 goes-only bytes n v is e = by (decimal_digit_in n.1) refl e
   where
     by : (o : Option (ℕ × List ℕ)) → decimal_digit_in n.1 ≡ o → with_digit n.0 n.1 o ≡ Some v → Begins bytes v
-    by None f g = subst (Begins bytes) (some_is (n.0, n.1) v g) is
+    by None f g = subst (Begins bytes) (same_Some (n.0, n.1) v g) is
     by (Some x) f g =
         let w = when_some (nat_le (n.0 * 10 + x.0) 255) (n.0 * 10 + x.0, x.1) v g in
         let here = digit-only n.1 x f in
@@ -151,7 +152,7 @@ number-only bytes v e =
     elim (parted (first.0.0 == 0) (Some first.0) _ v first.2) [
       | inl p ↦
           let P : ℕ × List ℕ → Type 0 = λ x. (bytes ≡ decimal x.0 ++ x.1) × (x.0 < 256) in
-          subst P (some_is first.0 v p.1) (spelled, omega (arith, here.1))
+          subst P (same_Some first.0 v p.1) (spelled, omega (arith, here.1))
       | inr r ↦
           let second = bind_some (with_next_digit first.0) with_next_digit v r.1 in
           let one =
@@ -224,7 +225,7 @@ hex-only k text v e =
     let low = digits_value-lt 16 (take k text) (AllDigits-from 16 (take k text) digits.0) in
     let small : b.0 < 16 ^ k = rw len at (rw digits.1 at low) in
     let P : ℕ × List ℕ → Type 0 = λ x. (text ≡ numeral 16 k x.0 ++ x.1) × (x.0 < 16 ^ k) in
-    subst P (some_is (b.0, drop k text) v b.2) (sym (take-append-drop k text) ∙ ap (λ t. t ++ drop k text) here, small)
+    subst P (same_Some (b.0, drop k text) v b.2) (sym (take-append-drop k text) ∙ ap (λ t. t ++ drop k text) here, small)
 
 pub numerals : (k : ℕ) → IsSpelling (hex_in k) (numeral 16 k) (λ n. n < 16 ^ k)
 numerals k = record { back = hex-back k; only = hex-only k }

@@ -14,6 +14,7 @@ pub mod LineReaderFacts
 pub mod CutFacts
 pub mod PassingText
 pub mod PassingStep
+pub mod ItemsFacts
 pub mod ExplainedFacts
 pub mod FaultFacts
 pub mod NoFault

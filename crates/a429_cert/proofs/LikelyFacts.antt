@@ -1,5 +1,5 @@
 -- Lines that are written before they are needed.
-use Rattle.std.proofs.Common.{◌≡◌, ◌≢◌, ◌∙◌, ◌<◌, ◌≤◌, ◌+◌, ◌-◌, ◌==◌, ℕ, zero, suc, List, [], ◌∷◌, ◌++◌, length, get_or, take, drop, Bool, true, false, not, nat_lt, if◌then◌else◌, Option, Some, None, refl, sym, ap, subst, arith}
+use Rattle.std.proofs.Common.{◌≡◌, ◌≢◌, ◌∙◌, ◌<◌, ◌≤◌, ◌+◌, ◌-◌, ◌==◌, ℕ, zero, suc, List, [], ◌∷◌, ◌++◌, length, get_or, take, drop, Bool, true, false, nat_lt, if◌then◌else◌, Option, Some, None, refl, sym, ap, subst, arith}
 use Rattle.std.specs.List.{AllByRecursion, starts_with}
 use Rattle.std.proofs.Math.Seq.{take-append_seam}
 use Rattle.std.proofs.lemmas.Bool.Decides.{Decides-eqb, nat_tests}
@@ -42,7 +42,7 @@ no_end : (b : ℕ) → IsVisible b → (b == 10) ≡ false
 no_end b h = grind (arith, nat_tests, h.0)
 
 -- a line without control characters ends at its line feed
-ends_there : (text rest : List ℕ)
+pub ends_there : (text rest : List ℕ)
     → AllByRecursion IsVisible text → certificate_lines (text ++ 10 ∷ rest) ≡ Some text ∷ certificate_lines rest
 ends_there [] rest h = refl
 ends_there (b ∷ bs) rest h = rw (no_end b h.0, ends_there bs rest h.1) refl
@@ -207,16 +207,6 @@ pub refused_line : (p : Contents) (text : Option (List ℕ)) (m : MovedLine) (n 
 refused_line p None m n s says none = absurd says
 refused_line p (Some text) m n s says none = λ at here z.
     fault-read p s at.next at.line at.entry text (Moved m) (of.NotAllowed n) says tt (tt, (sym here, none))
-
--- ---- tests turned round
-
-pub is_yes : (b : Bool) → not b ≡ false → b ≡ true
-is_yes true e = refl
-is_yes false e = absurd (cc e)
-
-pub is_no : (b : Bool) → not b ≡ true → b ≡ false
-is_no true e = absurd (cc e)
-is_no false e = refl
 
 -- ---- where no memory was there
 

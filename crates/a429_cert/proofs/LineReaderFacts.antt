@@ -5,12 +5,12 @@ use borrow.Rule.Slice.PartMut.{put_mid}
 use Rattle.std.proofs.lemmas.Bool.Decides.{nat_tests}
 use Rattle.a429_word.proofs.TallySlices.{take-put_mid_within}
 use Rattle.std.specs.Io.KnownBytes.{Consumes, Keeps, IsAtEnd, prepend_known}
+use Rattle.std.proofs.lemmas.Option.{same_Some}
 use Rattle.memchr.specs.Find.{is_byte, IsFirstByte}
 use Rattle.a429_cert.specs.Lines.{certificate_lines, begun_with}
 use Rattle.a429_cert.specs.CutLines.{BeginsWith, GivesLine, IsFirstLine, IsLeftAfter, cut}
 use Rattle.a429_record.specs.Ends.{HasNoEnd}
 use Rattle.a429_cert.proofs.LinesFacts.{first_line, no_line}
-use Rattle.a429_cert.proofs.Options.{some_is}
 
 -- ---- places in the buffer
 
@@ -132,7 +132,7 @@ longer_by b n (Some text) h = omega (arith, h)
 begun_first : (b n : ℕ) (lines : List (Option (List ℕ))) → Opens n lines → Opens (suc n) (begun_with b lines)
 begun_first b n [] h = absurd (cc h.first)
 begun_first b n (line ∷ lines) h =
-    let same : line ≡ h.line = some_is line h.line h.first in
+    let same : line ≡ h.line = same_Some line h.line h.first in
     record { line = option_map (λ text. b ∷ text) line; first = refl; long = longer_by b n line (subst (IsAsLong n) (sym same) h.long) }
 
 begun_one : (b : ℕ) (lines : List (Option (List ℕ))) → Opens 1 (begun_with b lines)

@@ -1,16 +1,13 @@
 -- The lines of a text, one after the other.
 use Rattle.std.proofs.Common.{◌≡◌, ◌⊎◌, inl, inr, ℕ, zero, suc, ◌+◌, ◌≤◌, ◌<◌, ◌==◌, List, [], ◌∷◌, ◌++◌, append-nil, length, take, drop, Bool, true, false, Option, Some, None, IfNone, slice_get, refl, sym, ap, ◌∙◌, subst, arith}
 use Rattle.std.proofs.lemmas.List.{drop-drop, length-drop}
+use Rattle.std.proofs.lemmas.Bool.{false_from_ne_true}
 use Rattle.memchr.specs.Find.{is_byte, Passes, IsFirstByte}
 use Rattle.a429_record.specs.Ends.{HasNoEnd}
 use Rattle.a429_record.proofs.LinesFacts.{no_end}
 use Rattle.a429_cert.specs.Lines.{certificate_lines}
 
 -- ---- where a line ends
-
-pub not_true : (b : Bool) → (b ≡ true → ⊥) → b ≡ false
-not_true true h = absurd (h refl)
-not_true false h = refl
 
 -- the line before the first line feed of some bytes, whatever comes behind them
 pub first_line : (bs z : List ℕ) (n : ℕ)
@@ -19,7 +16,7 @@ pub first_line : (bs z : List ℕ) (n : ℕ)
 first_line [] z n h before here = absurd (omega arith)
 first_line (b ∷ bs) z zero h before here = rw here refl
 first_line (b ∷ bs) z (suc n) h before here =
-    let other : (b == 10) ≡ false = not_true (b == 10) (before 0 (omega arith) (omega arith)) in
+    let other : (b == 10) ≡ false = false_from_ne_true (b == 10) (before 0 (omega arith) (omega arith)) in
     rw (other, first_line bs z n (omega arith) (λ k least below. before (suc k) (omega arith) (omega arith)) here) refl
 
 longer : (b : ℕ) (bs : List ℕ) → (b == 10) ≡ false → (bs ≡ []) ⊎ (certificate_lines bs ≡ None ∷ []) → certificate_lines (b ∷ bs) ≡ None ∷ []

@@ -1,5 +1,6 @@
 -- A certificate that explains a recording has no first fault.
 use Rattle.std.proofs.Common.{◌≡◌, ◌⊎◌, inl, inr, ℕ, zero, suc, ◌+◌, ◌≤◌, List, [], ◌∷◌, map, take, drop, Option, Some, None, slice_get, refl, sym, ap, ◌∙◌, subst, arith}
+use Rattle.std.proofs.lemmas.Option.{same_Some}
 use Rattle.a429_profile.specs.Profile.{Contents}
 use Rattle.a429_link.specs.declared.seen.Seen.{Seen}
 use Rattle.a429_link.specs.declared.step.Step.{Step}
@@ -22,7 +23,6 @@ use Rattle.a429_cert.specs.Explained.{listed_ldu, step_of, ShowsStates, ListsSte
 use Rattle.a429_cert.specs.Act.{step_with}
 use Rattle.a429_cert.specs.Fault.{at_line, IsVersioned, IsFaultOfHead, IsOfAStep, IsFaultOfStep, IsFaultOfLine, IsFaultAt, IsLaterFault, IsFirstCertFault}
 use Rattle.a429_cert.proofs.ReadingFacts.{one-line}
-use Rattle.a429_cert.proofs.Options.{some_is}
 
 -- ---- two steps of one line
 
@@ -33,10 +33,10 @@ Alike a b = ((a ≡ b) × (label a ≡ None))
 
 recorded : (f : Seen → Step) (next other : Seen) (a b : Step) → ((z : Seen) → label (f z) ≡ Some z) → Some (f next) ≡ Some a
     → Some (f other) ≡ Some b → Alike a b
-recorded f x y a b l e h = inr (f, x, y, some_is (f x) a e, some_is (f y) b h, l)
+recorded f x y a b l e h = inr (f, x, y, same_Some (f x) a e, same_Some (f y) b h, l)
 
 silent : (c a b : Step) → label c ≡ None → Some c ≡ Some a → Some c ≡ Some b → Alike a b
-silent c a b l e h = inl (sym (some_is c a e) ∙ some_is c b h, ap label (sym (some_is c a e)) ∙ l)
+silent c a b l e h = inl (sym (same_Some c a e) ∙ same_Some c b h, ap label (sym (same_Some c a e)) ∙ l)
 
 alike : (x : Act) (next other : Option Seen) (a b : Step) → step_with x next ≡ Some a → step_with x other ≡ Some b → Alike a b
 alike act.Sent None other a b e h = absurd (cc e)
@@ -99,16 +99,16 @@ own_act : (x : Act) (next : Option Seen) (a : Step) (xs : List Step) (i : ℕ)
     → step_with x next ≡ Some a → [] ≡ take i (trace (a ∷ xs)) → step_with x (slice_get (trace (a ∷ xs)) i) ≡ Some a
 own_act act.Sent None a xs i e q = absurd (cc e)
 own_act act.Sent (Some w) a xs i e q =
-    subst (λ c. [] ≡ take i (trace (c ∷ xs)) → step_with act.Sent (slice_get (trace (c ∷ xs)) i) ≡ Some c) (some_is (step.Sent w) a e)
+    subst (λ c. [] ≡ take i (trace (c ∷ xs)) → step_with act.Sent (slice_get (trace (c ∷ xs)) i) ≡ Some c) (same_Some (step.Sent w) a e)
     (λ r. ap (step_with act.Sent) (first_word w (trace xs) i r)) q
 own_act act.Answered None a xs i e q = absurd (cc e)
 own_act act.Answered (Some w) a xs i e q =
     subst (λ c. [] ≡ take i (trace (c ∷ xs)) → step_with act.Answered (slice_get (trace (c ∷ xs)) i) ≡ Some c)
-    (some_is (step.Answered w) a e) (λ r. ap (step_with act.Answered) (first_word w (trace xs) i r)) q
+    (same_Some (step.Answered w) a e) (λ r. ap (step_with act.Answered) (first_word w (trace xs) i r)) q
 own_act act.FreeSeen None a xs i e q = absurd (cc e)
 own_act act.FreeSeen (Some w) a xs i e q =
     subst (λ c. [] ≡ take i (trace (c ∷ xs)) → step_with act.FreeSeen (slice_get (trace (c ∷ xs)) i) ≡ Some c)
-    (some_is (step.FreeSeen w) a e) (λ r. ap (step_with act.FreeSeen) (first_word w (trace xs) i r)) q
+    (same_Some (step.FreeSeen w) a e) (λ r. ap (step_with act.FreeSeen) (first_word w (trace xs) i r)) q
 own_act act.SentLost next a xs i e q = e
 own_act act.TimeOut next a xs i e q = e
 own_act act.TakeAnswer next a xs i e q = e
@@ -133,7 +133,7 @@ sound_step : (p : Contents) (s : State) (text : List ℕ) (a : Step) (next : Opt
 sound_step p s text a next n i (of.NotAllowed m) t own d = d.1 (t.next, (a, t.step, t.can))
 sound_step p s text a next n i (of.WordDiffers m j) t own d = d.3 (a, own, t.can)
 sound_step p s text a next n i (of.StateDiffers m) t own d =
-    let same : a ≡ d.1 = some_is a d.1 (sym own ∙ d.2) in
+    let same : a ≡ d.1 = same_Some a d.1 (sym own ∙ d.2) in
     d.4 (subst (λ b. ShowsStates t.line (after p b s)) same t.shows)
 sound_step p s text a next n i (of.Line m) t own d = d
 sound_step p s text a next n i of.Version t own d = d
@@ -197,8 +197,8 @@ other_digit e = omega (arith, e)
 
 same_version : (v w : Version) → version_line v ≡ version_line w → v ≡ w
 same_version One One e = refl
-same_version One Two e = absurd (other_digit (some_is 49 50 (ap (λ (l : List ℕ). slice_get l 14) e)))
-same_version Two One e = absurd (other_digit (sym (some_is 50 49 (ap (λ (l : List ℕ). slice_get l 14) e))))
+same_version One Two e = absurd (other_digit (same_Some 49 50 (ap (λ (l : List ℕ). slice_get l 14) e)))
+same_version Two One e = absurd (other_digit (sym (same_Some 50 49 (ap (λ (l : List ℕ). slice_get l 14) e))))
 same_version Two Two e = refl
 
 later_fault : (p : Contents) (certificate : List ℕ) (items : List Seen) (first : ℕ) (steps : List Step) (f : CertFault)
@@ -206,10 +206,12 @@ later_fault : (p : Contents) (certificate : List ℕ) (items : List Seen) (first
 later_fault p certificate items first steps f h k =
     let own : slice_get (certificate_lines certificate) 1 ≡ Some (Some (spelling (First first))) =
     ap (λ (l : List (Option (List ℕ))). slice_get l 1) h.header in
-    let same : k.head.first ≡ first = same_first k.head.first first k.says.1.0 h.byte (some_is _ _ (some_is _ _ (sym k.says.1.1 ∙ own))) in
+    let same : k.head.first ≡ first =
+    same_first k.head.first first k.says.1.0 h.byte (same_Some _ _ (same_Some _ _ (sym k.says.1.1 ∙ own))) in
     let named : slice_get (certificate_lines certificate) 0 ≡ Some (Some (version_line h.version)) =
     ap (λ (l : List (Option (List ℕ))). slice_get l 0) h.header in
-    let version : k.head.version ≡ h.version = same_version k.head.version h.version (some_is _ _ (some_is _ _ (sym k.says.0 ∙ named))) in
+    let version : k.head.version ≡ h.version =
+    same_version k.head.version h.version (same_Some _ _ (same_Some _ _ (sym k.says.0 ∙ named))) in
     let read = map (read_as h.version) h.lines in
     let lines : step_lines k.head.version certificate ≡ read =
     ap (λ v. step_lines v certificate) version ∙ ap (λ (l : List (Option (List ℕ))). map (read_as h.version) (drop 2 l)) h.header in

@@ -20,9 +20,6 @@ pub when_none : {A : Type 0} (test : Bool) (x : A) → when test x ≡ None → 
 when_none true x e = absurd cc
 when_none false x e = refl
 
-pub some_is : {A : Type 0} (x y : A) → Some x ≡ Some y → x ≡ y
-some_is x y e = cc
-
 -- a choice that gave a value
 pub split : {A : Type 0} (test : Bool) (x rest : Option A) (v : A)
     → (if test then x else rest) ≡ Some v → ((test ≡ true) × (x ≡ Some v)) ⊎ (rest ≡ Some v)

@@ -1,5 +1,5 @@
 -- A data word that is sent, and taken at once: its two lines, and what they lead to.
-use Rattle.std.proofs.Common.{◌≡◌, ◌≢◌, ◌∙◌, ◌≤◌, ◌<◌, ◌+◌, ℕ, suc, List, [], ◌∷◌, ◌++◌, append-nil, append_assoc, length, drop, true, Option, Some, None, option_map, slice_get, ◌⊎◌, inr, refl, sym, ap, subst, arith, IfSome}
+use Rattle.std.proofs.Common.{◌≡◌, ◌∙◌, ◌≤◌, ◌<◌, ◌+◌, ℕ, suc, List, [], ◌∷◌, ◌++◌, append-nil, append_assoc, length, drop, true, Option, Some, None, option_map, slice_get, ◌⊎◌, inr, refl, sym, ap, subst, arith, IfSome, ne_of_lt}
 use Rattle.std.specs.Io.KnownBytes.{prepend_known}
 use Rattle.std.proofs.lemmas.Bool.{ne_eqb}
 use Rattle.std.proofs.lemmas.List.{length-append}
@@ -90,19 +90,16 @@ gives_taken k ahead (Some more) least most =
 pub least_place : (p : Contents) (next : NextWord) (s : State) → IsAtWord p next s → 1 ≤ next.place
 least_place p next s h = omega (arith, h.taken)
 
-apart : (a b : ℕ) → a < b → a ≢ b
-apart a b h e = omega (arith, h, e)
-
 pub sent_shows : (p : Contents) (next : NextWord) (s : State)
     → IsAtWord p next s → states_of (after_sent p next.word s) ≡ sent_states next.place
-sent_shows p next s h = rw (h.current, h.sending, ne_eqb _ _ (apart _ _ h.more), h.taking, h.taken, h.to_sink, h.to_source) refl
+sent_shows p next s h = rw (h.current, h.sending, ne_eqb _ _ (ne_of_lt h.more), h.taking, h.taken, h.to_sink, h.to_source) refl
 
 pub taken_shows : (p : Contents) (next : NextWord) (s : State)
     → IsAtWord p next s → states_of (after_both p next.word s) ≡ taken_states next.place
 taken_shows p next s h =
     let size : length (h.block.words ++ next.word ∷ []) + 1 ≡ suc next.place =
     omega (arith, h.taken, length-append h.block.words (next.word ∷ [])) in
-    ap states_of (both_made p next s h) ∙ rw (h.current, h.sending, ne_eqb _ _ (apart _ _ h.more), h.taking, size, h.to_source) refl
+    ap states_of (both_made p next s h) ∙ rw (h.current, h.sending, ne_eqb _ _ (ne_of_lt h.more), h.taking, size, h.to_source) refl
 
 -- ---- the lines pass
 

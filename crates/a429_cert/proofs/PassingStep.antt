@@ -1,10 +1,8 @@
 -- The steps of letters, and why the link refuses them.
-use Rattle.std.proofs.Common.{◌≡◌, ◌≢◌, true, Option, Some, None, Result, Ok, Err, IfErr, refl, sym, ap, ◌∙◌, subst}
-use Rattle.a429_word.specs.Word.{sum_below}
+use Rattle.std.proofs.Common.{◌≡◌, ◌≢◌, Option, Some, None, Result, Ok, Err, IfErr, refl, sym, ap, ◌∙◌, subst}
+use Rattle.std.proofs.lemmas.Option.{same_Some}
 use Rattle.a429_word.specs.declared.bus.Bus.TheVariants as bus
 use Rattle.a429_profile.specs.Profile.{Contents, IsProfile}
-use Rattle.a429_profile.specs.declared.codes.Codes.{Codes}
-use Rattle.a429_ldu.specs.Form.{is_free}
 use Rattle.a429_ldu.specs.CheckWord.{check_of}
 use Rattle.a429_ldu.specs.Ldu.{LduValue, IsLdu, IsFirstLduFault}
 use Rattle.a429_ldu.specs.declared.fault.LduFault.{LduFault}
@@ -17,6 +15,7 @@ use Rattle.a429_link.specs.declared.step.Step.TheVariants as step
 use Rattle.a429_link.specs.declared.fault.StepFault.{StepFault}
 use Rattle.a429_link.specs.declared.fault.StepFault.TheVariants as fault
 use Rattle.a429_link.specs.Step.{Can, IsNamedStep, IsFault}
+use Rattle.a429_link.proofs.LinkKept.{free_word}
 use Rattle.a429_cert.specs.declared.act.Act.{Act}
 use Rattle.a429_cert.specs.declared.act.Act.TheVariants as act
 use Rattle.a429_cert.specs.Act.{step_with}
@@ -29,7 +28,6 @@ use Rattle.a429_cert.specs.declared.fault.CertFault.TheVariants as of
 use Rattle.a429_cert.specs.Fault.{IsNamed}
 use Rattle.a429_cert.specs.Passing.{IsNamedOf, IsReadyOf, IsStepFault, IsFaultOfRead, MakesStep, RefusesLine, no_unit}
 use Rattle.a429_cert.specs.Explained.{listed_ldu}
-use Rattle.a429_cert.proofs.Options.{some_is}
 
 -- ---- a step by its letter
 
@@ -38,20 +36,20 @@ pub named_of : (p : Contents) (x : Act) (next : Option Seen) (a : Step) (s : Sta
     → step_with x next ≡ Some a → IsNamedStep p a s → IsNamedOf p x s
 named_of p act.Sent None a s e n = absurd (cc e)
 named_of p act.Sent (Some i) a s e n =
-    let n' = subst (λ b. IsNamedStep p b s) (sym (some_is _ a e)) n in (Some n'.0, (step.Sent n'.0, refl, n'.1))
+    let n' = subst (λ b. IsNamedStep p b s) (sym (same_Some _ a e)) n in (Some n'.0, (step.Sent n'.0, refl, n'.1))
 named_of p act.Answered None a s e n = absurd (cc e)
 named_of p act.Answered (Some i) a s e n =
-    let n' = subst (λ b. IsNamedStep p b s) (sym (some_is _ a e)) n in (Some n'.0, (step.Answered n'.0, refl, n'.1))
+    let n' = subst (λ b. IsNamedStep p b s) (sym (same_Some _ a e)) n in (Some n'.0, (step.Answered n'.0, refl, n'.1))
 named_of p act.FreeSeen None a s e n = absurd (cc e)
 named_of p act.FreeSeen (Some i) a s e n =
-    let n' = subst (λ b. IsNamedStep p b s) (sym (some_is _ a e)) n in (Some n'.0, (step.FreeSeen n'.0, refl, n'.1))
-named_of p act.SentLost next a s e n = (next, (step.SentLost, refl, subst (λ b. IsNamedStep p b s) (sym (some_is _ a e)) n))
-named_of p act.TimeOut next a s e n = (next, (step.TimeOut, refl, subst (λ b. IsNamedStep p b s) (sym (some_is _ a e)) n))
-named_of p act.TakeAnswer next a s e n = (next, (step.TakeAnswer, refl, subst (λ b. IsNamedStep p b s) (sym (some_is _ a e)) n))
-named_of p act.LoseAnswer next a s e n = (next, (step.LoseAnswer, refl, subst (λ b. IsNamedStep p b s) (sym (some_is _ a e)) n))
-named_of p act.SinkTakes next a s e n = (next, (step.SinkTakes, refl, subst (λ b. IsNamedStep p b s) (sym (some_is _ a e)) n))
-named_of p act.Silent next a s e n = (next, (step.Silent, refl, subst (λ b. IsNamedStep p b s) (sym (some_is _ a e)) n))
-named_of p act.GiveUp next a s e n = (next, (step.GiveUp, refl, subst (λ b. IsNamedStep p b s) (sym (some_is _ a e)) n))
+    let n' = subst (λ b. IsNamedStep p b s) (sym (same_Some _ a e)) n in (Some n'.0, (step.FreeSeen n'.0, refl, n'.1))
+named_of p act.SentLost next a s e n = (next, (step.SentLost, refl, subst (λ b. IsNamedStep p b s) (sym (same_Some _ a e)) n))
+named_of p act.TimeOut next a s e n = (next, (step.TimeOut, refl, subst (λ b. IsNamedStep p b s) (sym (same_Some _ a e)) n))
+named_of p act.TakeAnswer next a s e n = (next, (step.TakeAnswer, refl, subst (λ b. IsNamedStep p b s) (sym (same_Some _ a e)) n))
+named_of p act.LoseAnswer next a s e n = (next, (step.LoseAnswer, refl, subst (λ b. IsNamedStep p b s) (sym (same_Some _ a e)) n))
+named_of p act.SinkTakes next a s e n = (next, (step.SinkTakes, refl, subst (λ b. IsNamedStep p b s) (sym (same_Some _ a e)) n))
+named_of p act.Silent next a s e n = (next, (step.Silent, refl, subst (λ b. IsNamedStep p b s) (sym (same_Some _ a e)) n))
+named_of p act.GiveUp next a s e n = (next, (step.GiveUp, refl, subst (λ b. IsNamedStep p b s) (sym (same_Some _ a e)) n))
 
 -- and the other way round
 pub of_named : (p : Contents) (x : Act) (next other : Option Seen) (a b : Step) (s : State)
@@ -59,44 +57,39 @@ pub of_named : (p : Contents) (x : Act) (next other : Option Seen) (a b : Step) 
 of_named p act.Sent None other a b s e h can = absurd (cc e)
 of_named p act.Sent (Some i) None a b s e h can = absurd (cc h)
 of_named p act.Sent (Some i) (Some j) a b s e h can =
-    subst (λ c. IsNamedStep p c s) (some_is _ a e) (j, subst (λ c. Can p c s) (sym (some_is _ b h)) can)
+    subst (λ c. IsNamedStep p c s) (same_Some _ a e) (j, subst (λ c. Can p c s) (sym (same_Some _ b h)) can)
 of_named p act.Answered None other a b s e h can = absurd (cc e)
 of_named p act.Answered (Some i) None a b s e h can = absurd (cc h)
 of_named p act.Answered (Some i) (Some j) a b s e h can =
-    subst (λ c. IsNamedStep p c s) (some_is _ a e) (j, subst (λ c. Can p c s) (sym (some_is _ b h)) can)
+    subst (λ c. IsNamedStep p c s) (same_Some _ a e) (j, subst (λ c. Can p c s) (sym (same_Some _ b h)) can)
 of_named p act.FreeSeen None other a b s e h can = absurd (cc e)
 of_named p act.FreeSeen (Some i) None a b s e h can = absurd (cc h)
 of_named p act.FreeSeen (Some i) (Some j) a b s e h can =
-    subst (λ c. IsNamedStep p c s) (some_is _ a e) (j, subst (λ c. Can p c s) (sym (some_is _ b h)) can)
+    subst (λ c. IsNamedStep p c s) (same_Some _ a e) (j, subst (λ c. Can p c s) (sym (same_Some _ b h)) can)
 of_named p act.SentLost next other a b s e h can =
-    subst (λ c. IsNamedStep p c s) (some_is _ a e) (subst (λ c. Can p c s) (sym (some_is _ b h)) can)
+    subst (λ c. IsNamedStep p c s) (same_Some _ a e) (subst (λ c. Can p c s) (sym (same_Some _ b h)) can)
 of_named p act.TimeOut next other a b s e h can =
-    subst (λ c. IsNamedStep p c s) (some_is _ a e) (subst (λ c. Can p c s) (sym (some_is _ b h)) can)
+    subst (λ c. IsNamedStep p c s) (same_Some _ a e) (subst (λ c. Can p c s) (sym (same_Some _ b h)) can)
 of_named p act.TakeAnswer next other a b s e h can =
-    subst (λ c. IsNamedStep p c s) (some_is _ a e) (subst (λ c. Can p c s) (sym (some_is _ b h)) can)
+    subst (λ c. IsNamedStep p c s) (same_Some _ a e) (subst (λ c. Can p c s) (sym (same_Some _ b h)) can)
 of_named p act.LoseAnswer next other a b s e h can =
-    subst (λ c. IsNamedStep p c s) (some_is _ a e) (subst (λ c. Can p c s) (sym (some_is _ b h)) can)
+    subst (λ c. IsNamedStep p c s) (same_Some _ a e) (subst (λ c. Can p c s) (sym (same_Some _ b h)) can)
 of_named p act.SinkTakes next other a b s e h can =
-    subst (λ c. IsNamedStep p c s) (some_is _ a e) (subst (λ c. Can p c s) (sym (some_is _ b h)) can)
+    subst (λ c. IsNamedStep p c s) (same_Some _ a e) (subst (λ c. Can p c s) (sym (same_Some _ b h)) can)
 of_named p act.Silent next other a b s e h can =
-    subst (λ c. IsNamedStep p c s) (some_is _ a e) (subst (λ c. Can p c s) (sym (some_is _ b h)) can)
+    subst (λ c. IsNamedStep p c s) (same_Some _ a e) (subst (λ c. Can p c s) (sym (same_Some _ b h)) can)
 of_named p act.GiveUp next other a b s e h can =
-    subst (λ c. IsNamedStep p c s) (some_is _ a e) (subst (λ c. Can p c s) (sym (some_is _ b h)) can)
+    subst (λ c. IsNamedStep p c s) (same_Some _ a e) (subst (λ c. Can p c s) (sym (same_Some _ b h)) can)
 
 -- what the link says of the step, said of its letter
 pub fault_of : (p : Contents) (x : Act) (next : Option Seen) (a : Step) (s : State) (e : StepFault)
     → step_with x next ≡ Some a → IsFault p a s e → IsStepFault p x next s e
 fault_of p x next a s fault.NotAllowed is h = λ n. h (of_named p x next n.0 a n.1.0 s is n.1.1 n.1.2)
 fault_of p x next a s fault.WordDiffers is h =
-    (named_of p x next a s is h.0, λ c. h.1 (subst (λ b. Can p b s) (some_is c.0 a (sym c.1 ∙ is)) c.2))
+    (named_of p x next a s is h.0, λ c. h.1 (subst (λ b. Can p b s) (same_Some c.0 a (sym c.1 ∙ is)) c.2))
 fault_of p x next a s fault.OutOfMemory is h = tt
 
 -- ---- letters without an entry
-
--- a word of which no bit is set is free: its parity is wrong
-free_word : (c : Codes) → is_free c bus.A 0 ≡ true
-unfolding sum_below
-free_word c = refl
 
 pub sent_named : (p : Contents) (i : Seen) (s : State) → IsNamedStep p (step.Sent i) s → IsNamedOf p act.Sent s
 sent_named p i s n = named_of p act.Sent (Some i) (step.Sent i) s refl n
@@ -133,7 +126,7 @@ no_unit_is : (p : Contents) → IsProfile p → (u : LduValue) (f : LduFault) �
 no_unit_is p is v unit.Count h u = h u.length
 no_unit_is p is v unit.NotBytes h u = h.1 u.bytes (carries_of p is v.words u.bytes u.carries)
 no_unit_is p is v unit.CheckWrong h u =
-    let same : h.1 ≡ u.bytes = some_is h.1 u.bytes (sym (carried_of p is v.words h.1 h.2) ∙ u.carries) in
+    let same : h.1 ≡ u.bytes = same_Some h.1 u.bytes (sym (carried_of p is v.words h.1 h.2) ∙ u.carries) in
     h.4 (u.checked h.3 ∙ ap (check_of p.check) (sym same))
 no_unit_is p is v unit.OutOfMemory h u = h
 
@@ -151,7 +144,7 @@ unit_refused p is s at l f e g first = λ h. rw g (by f first (λ q. h (g ∙ q)
   where
     none : (f : LduFault) → IsFirstLduFault p l.check l.words f → IsNamed p (Load l) s → ⊥
     none f first m =
-        let can : Can p (step.Load (listed_ldu l)) s = subst (λ b. Can p b s) (sym (some_is _ m.1.0 m.1.1)) m.1.2 in
+        let can : Can p (step.Load (listed_ldu l)) s = subst (λ b. Can p b s) (sym (same_Some _ m.1.0 m.1.1)) m.1.2 in
         no_unit_is p is (listed_ldu l) f first can.3
 
     by : (f : LduFault) → (f ≢ unit.OutOfMemory → IsFirstLduFault p l.check l.words f) → (no_unit f at.line ≢ of.OutOfMemory)

@@ -1,5 +1,6 @@
 -- The lines of steps, by their first letter.
 use Rattle.std.proofs.Common.{◌≡◌, ◌≢◌, ◌==◌, ◌∙◌, inl, inr, ℕ, List, ◌∷◌, Option, Some, None, option_map, Result, Ok, Err, IfOk, sym, ap, subst}
+use Rattle.std.proofs.lemmas.Option.{same_Some}
 use Rattle.a429_profile.specs.Profile.{Contents}
 use Rattle.a429_link.specs.declared.seen.Seen.{Seen}
 use Rattle.a429_link.specs.State.{State}
@@ -16,7 +17,7 @@ use Rattle.a429_cert.specs.declared.listed.Listed.TheVariants as listed
 use Rattle.a429_cert.specs.Passing.{IsFaultOfRead, IsStepOfLine, Lists, RefusesListed, RefusesText}
 use Rattle.a429_cert.proofs.ReadingFacts.{line-back}
 use Rattle.a429_cert.proofs.FieldNumbers.{is_same}
-use Rattle.a429_cert.proofs.Options.{some_is, split}
+use Rattle.a429_cert.proofs.Options.{split}
 
 none-some : {A : Type 0} (a : A) (o : Option A) → o ≡ None → o ≡ Some a → ⊥
 none-some a o e f = cc
@@ -27,7 +28,7 @@ read-as text l s = ap line_in s.spelled ∙ line-back l s.line s.held
 
 -- the line of the first file's number is that of no step
 first-none : (n : Option ℕ) (l : CertLine) → option_map (λ n. First n) n ≡ Some l → IsOfAStep l → ⊥
-first-none (Some n) l e is = subst IsOfAStep (sym (some_is (First n) l e)) is
+first-none (Some n) l e is = subst IsOfAStep (sym (same_Some (First n) l e)) is
 first-none None l e is = absurd (cc e)
 
 -- where an L stands first, and behind it no link data unit

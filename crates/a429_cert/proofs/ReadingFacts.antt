@@ -6,6 +6,7 @@ use Rattle.std.specs.Str.{bytes_eq}
 use Rattle.std.proofs.lemmas.Bool.{and_parts}
 use Rattle.std.proofs.lemmas.List.{length-append, take-append-drop}
 use Rattle.std.proofs.lemmas.Slice.Eq.{bytes_eq-Decides}
+use Rattle.std.proofs.lemmas.Option.{same_Some}
 use Rattle.a429_word.specs.Digits.{numeral, hex_text}
 use Rattle.a429_ldu.specs.Ldu.{most_data_words, HasLength}
 use Rattle.a429_cert.specs.declared.act.Act.{Act}
@@ -19,7 +20,7 @@ use Rattle.a429_cert.specs.Act.{act_text, act_in}
 use Rattle.a429_cert.specs.States.{source_text, sink_text, states_in}
 use Rattle.a429_cert.specs.Line.{spelling, IsLine, IsHeld, SpellsLine, Reads}
 use Rattle.a429_cert.specs.Reading.{words_at, unit_words_in, first_in, load_in, moved_in, line_in}
-use Rattle.a429_cert.proofs.Options.{bind_some, mapped, when_some, some_is, split}
+use Rattle.a429_cert.proofs.Options.{bind_some, mapped, when_some, split}
 use Rattle.a429_cert.proofs.FieldFacts.{IsNext, field-back, field-only}
 use Rattle.a429_cert.proofs.FieldDigits.{length-numeral}
 use Rattle.a429_cert.proofs.FieldNumbers.{numerals, last_decimal-back, last_decimal-only, fits, below, is_same, nothing}
@@ -62,7 +63,7 @@ words_at-only (suc n) text words e =
     let more = bind_some (words_at n first.0.1) _ words first.2 in
     let here = field-only (hex_in 8) (numeral 16 8) (λ n. n < 16 ^ 8) (numerals 8) text first.0 first.1 in
     let rest = words_at-only n first.0.1 more.0 more.1 in
-    subst (AreWords text (suc n)) (some_is (first.0.0 ∷ more.0) words more.2) (record {
+    subst (AreWords text (suc n)) (same_Some (first.0.0 ∷ more.0) words more.2) (record {
       spelled = here.0 ∙ ap (λ t. field (hex_text first.0.0) ++ t) rest.spelled;
       held = (here.1, rest.held);
       many = ap suc rest.many;
@@ -186,7 +187,7 @@ load-only bytes l e =
     first.0 ∙ ap (λ t. field (numeral 16 1 gfi.0.0) ++ t)
     (second.0 ∙ ap (λ t. field (numeral 16 1 flags.0.0) ++ t) (third.0 ∙ ap (λ t. field (numeral 16 4 check.0.0) ++ t) rest.0.spelled)) in
     let read : LoadLine = record { gfi = gfi.0.0; flags = flags.0.0; check = check.0.0; words = words.0 } in
-    subst (λ (x : LoadLine). SpellsLine (codes "L" ++ bytes) (Load x)) (some_is read l words.2) (record {
+    subst (λ (x : LoadLine). SpellsLine (codes "L" ++ bytes) (Load x)) (same_Some read l words.2) (record {
       line = (omega (arith, first.1), omega (arith, second.1), rest.1.0, rest.1.1);
       held = (third.1, rest.0.held);
       spelled = ap (λ t. codes "L" ++ t) text ∙ sym (load-text read);
@@ -199,7 +200,7 @@ moved-only letter bytes l e =
     let states = bind_some (states_in bytes) _ l act.2 in
     let here = states-only bytes states.0 states.1 in
     let read : MovedLine = record { act = act.0; states = states.0 } in
-    subst (λ (x : MovedLine). SpellsLine (letter ∷ bytes) (Moved x)) (some_is read l states.2) (record {
+    subst (λ (x : MovedLine). SpellsLine (letter ∷ bytes) (Moved x)) (same_Some read l states.2) (record {
       line = (here.1.source, here.1.sink);
       held = (here.1.to_sink, here.1.to_source);
       spelled = ap (λ t. t ++ bytes) (act-only letter act.0 act.1) ∙ ap (λ t. act_text act.0 ++ t) here.0 ∙ sym (moved-text read);
@@ -243,7 +244,8 @@ one-text v w l here there = here.spelled ∙ sym there.spelled
 
 pub one-line : (text : List ℕ) (l m : CertLine) → SpellsLine text l → SpellsLine text m → l ≡ m
 one-line text l m here there =
-    some_is l m (sym (line-back l here.line here.held) ∙ ap line_in (sym here.spelled ∙ there.spelled) ∙ line-back m there.line there.held)
+    same_Some l m
+    (sym (line-back l here.line here.held) ∙ ap line_in (sym here.spelled ∙ there.spelled) ∙ line-back m there.line there.held)
 
 pub written-back : (l : CertLine) (read : Option CertLine) → IsLine l → IsHeld l → Reads (spelling l) read → read ≡ Some l
 written-back l None is held h = absurd (h l record { line = is; held = held; spelled = refl })

@@ -2,6 +2,7 @@
 use Rattle.std.proofs.Common.{◌≡◌, ◌≢◌, ◌≤◌, ◌+◌, ◌∙◌, ◌++◌, ◌∷◌, ℕ, suc, List, [], length, take, drop, true, false, Option, Some, None, slice_get, Result, Ok, Err, IfErr, IsErrOf, refl, sym, ap, subst, arith}
 use Rattle.std.specs.List.{FoldsTo}
 use Rattle.std.proofs.lemmas.List.{length-take-le}
+use Rattle.std.proofs.lemmas.Option.{same_Some}
 use Rattle.a429_word.proofs.ListFacts.{none_past}
 use Rattle.a429_profile.specs.Profile.{Contents}
 use Rattle.a429_link.specs.declared.file.FileBytes.{FileBytes}
@@ -41,7 +42,6 @@ use Rattle.a429_cert.specs.declared.replay.Replay.{Replay}
 use Rattle.a429_cert.specs.Stream.{left_after, next_of, PassesOver, TakesNext, RefusesNext, EndsNext, IsNotTaken, of_cert}
 use Rattle.a429_cert.specs.StreamExplained.{WhereBothKnown}
 use Rattle.a429_cert.specs.Report.{listening, position, Report, Loads, Makes, with_number, report_of, reports_of_steps, reports_of_run, Hearing, IsHeard, report_of_listed, entry_used, HearsListed, HearsText}
-use Rattle.a429_cert.proofs.Options.{some_is}
 use Rattle.a429_cert.proofs.ReadingFacts.{one-line}
 use Rattle.a429_cert.proofs.StreamFacts.{refused_next}
 use Rattle.a429_cert.proofs.ExplainedFacts.{drop_get, none_read, passes_on, explains_all}
@@ -85,7 +85,7 @@ reports_push p es (b ∷ steps) a s i =
 -- ---- what is told of a line is what is told of its step
 
 some_step : (o : Step) (a : Step) → Some o ≡ Some a → o ≡ a
-some_step o a e = some_is o a e
+some_step o a e = same_Some o a e
 
 report_of_act : (es : List Entry) (s : State) (i : ℕ) (x : Act) (next : Option Seen) (a : Step)
     → slice_get (items_of es) i ≡ next → step_with x next ≡ Some a

@@ -2,6 +2,7 @@
 use Rattle.std.proofs.Common.{◌≡◌, ◌==◌, ◌∙◌, ◌≤◌, inl, inr, if◌then◌else◌, ℕ, List, [], ◌∷◌, ◌++◌, ◌&&◌, nat_le, ◌<◌, Option, Some, refl, sym, ap, subst, arith}
 use Rattle.std.specs.Fmt.{decimal}
 use Rattle.std.proofs.lemmas.Bool.{and_parts}
+use Rattle.std.proofs.lemmas.Option.{same_Some}
 use Rattle.a429_link.specs.declared.state.States.{States}
 use Rattle.a429_link.specs.declared.state.SourceState.{SourceState}
 use Rattle.a429_link.specs.declared.state.SourceState.TheVariants.{Idle, Awaiting, Sending, Waiting}
@@ -10,7 +11,7 @@ use Rattle.a429_link.specs.declared.state.SinkState.TheVariants.{Quiet, OwesClea
 use Rattle.a429_cert.specs.States.{source_text, IsSource, sending_in, source_letter, source_in, sink_text, IsSink, block_in, sink_letter, sink_in, states_in}
 use Rattle.a429_cert.specs.Field.{field, with_rest, decimal_in, last_decimal_in}
 use Rattle.a429_cert.proofs.FieldFacts.{IsNext, IsSpelling, field-back, field-only}
-use Rattle.a429_cert.proofs.Options.{bind_some, when_some, some_is, split}
+use Rattle.a429_cert.proofs.Options.{bind_some, when_some, split}
 use Rattle.a429_cert.proofs.FieldNumbers.{decimals, last_decimal-back, last_decimal-only, fits, below, is_same}
 
 -- ---- states that are a letter alone
@@ -26,7 +27,7 @@ letter : {A : Type 0} (text : A → List ℕ) (Fits : A → Type 0) (b c : ℕ) 
 letter text Fits b c x rest v others spelled e more =
     elim (split (b == c) (Some (x, rest)) others v e) [
       | inl p ↦
-          subst (IsSpelled text Fits (b ∷ rest)) (some_is (x, rest) v p.1)
+          subst (IsSpelled text Fits (b ∷ rest)) (same_Some (x, rest) v p.1)
           (ap (λ n. n ∷ rest) (is_same b c p.0) ∙ ap (λ t. t ++ rest) (sym spelled.0), spelled.1)
       | inr r ↦ more r
     ]
@@ -145,4 +146,4 @@ states-only text s e =
     let spelled : text ≡ states_text read =
     first.0 ∙ ap (λ t. field (source_text source.0.0) ++ t)
     (second.0 ∙ ap (λ t. field (sink_text sink.0.0) ++ t) (third.0 ∙ ap (λ t. field (decimal to_sink.0.0) ++ t) fourth.0)) in
-    subst P (some_is read s to_source.2) (spelled, record { source = first.1; sink = second.1; to_sink = third.1; to_source = fourth.1 })
+    subst P (same_Some read s to_source.2) (spelled, record { source = first.1; sink = second.1; to_sink = third.1; to_source = fourth.1 })

@@ -6,10 +6,10 @@ use Rattle.a429_record.specs.Rows.{GivesNext}
 use Rattle.a429_cert.specs.Explained.{items_of, IsExplained}
 use Rattle.a429_cert.specs.StreamExplained.{IsYes, IsSomeRun, Compared, Extracts, ExtractsOfRun, SaysYes, SaysFilesOfRun}
 use Rattle.a429_cert.specs.Stream.{next_of}
-use Rattle.a429_cert.proofs.Options.{some_is}
 use Rattle.a429_cert.proofs.ExplainedFacts.{drop_get, none_read, explained, in_some_run, in_every_run}
 use Rattle.a429_cert.proofs.StreamStands.{AreLeftAfter, next_at}
 use Rattle.std.specs.Io.KnownBytes.{prepend_known}
+use Rattle.std.proofs.lemmas.Option.{same_Some}
 use Rattle.a429_word.proofs.ListFacts.{none_past}
 use Rattle.a429_profile.specs.Profile.{Contents}
 use Rattle.a429_link.specs.declared.file.FileBytes.{FileBytes}
@@ -96,7 +96,7 @@ pub none_next : (lines : List (Option (List ℕ))) (k : ℕ) (old new line : Opt
 none_next lines k None new line h g = absurd (cc h.1)
 none_next lines k (Some xs) None line h g = absurd g
 none_next lines k (Some xs) (Some ys) line h g =
-    let same : certificate_lines xs ≡ drop k lines = ap certificate_lines (some_is xs h.0 h.1) ∙ h.2 in
+    let same : certificate_lines xs ≡ drop k lines = ap certificate_lines (same_Some xs h.0 h.1) ∙ h.2 in
     sym (drop_get lines k) ∙ ap (λ (l : List (Option (List ℕ))). slice_get l 0) (sym same ∙ g)
 
 yes : (p : Contents) (d : Head) (k i : ℕ) (taken : List FileBytes) (s : State) (held left more : Option (List ℕ))

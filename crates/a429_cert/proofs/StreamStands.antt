@@ -1,6 +1,7 @@
 -- Where a replay along a certificate's lines stands, and what each line says of it.
 use Rattle.std.proofs.Common.{◌≡◌, ◌≤◌, ◌+◌, ◌∙◌, ◌++◌, ◌∷◌, ℕ, zero, suc, List, [], length, map, take, drop, Bool, true, false, ◌==◌, nat_le, if◌then◌else◌, Option, Some, None, option_map, option_and_then, slice_get, refl, sym, ap, subst, arith}
 use Rattle.std.proofs.lemmas.List.{drop-drop}
+use Rattle.std.proofs.lemmas.Option.{same_Some}
 use Rattle.a429_profile.specs.Profile.{Contents}
 use Rattle.a429_link.specs.declared.file.FileBytes.{FileBytes}
 use Rattle.a429_link.specs.declared.seen.Seen.{Seen}
@@ -20,7 +21,6 @@ use Rattle.a429_cert.specs.Version.{without_x, read_as, step_lines}
 use Rattle.a429_cert.specs.Fault.{HasHead, SaysLine}
 use Rattle.a429_cert.specs.Passing.{PassesText}
 use Rattle.a429_cert.specs.Stream.{left_after, PassesOver}
-use Rattle.a429_cert.proofs.Options.{some_is}
 use Rattle.a429_cert.proofs.ExplainedFacts.{drop_get, line_read, passes_from}
 use Rattle.a429_cert.proofs.EarlierFiles.{text_earlier}
 use Rattle.a429_cert.specs.Change.{change}
@@ -44,7 +44,7 @@ pub line_next : (lines : List (Option (List ℕ))) (k : ℕ) (old new line : Opt
 line_next lines k None new line h g = absurd (cc h.1)
 line_next lines k (Some xs) None line h g = absurd g
 line_next lines k (Some xs) (Some ys) line h g =
-    let same : certificate_lines xs ≡ drop k lines = ap certificate_lines (some_is xs h.0 h.1) ∙ h.2 in
+    let same : certificate_lines xs ≡ drop k lines = ap certificate_lines (same_Some xs h.0 h.1) ∙ h.2 in
     ap (option_map cut) (sym (drop_get lines k) ∙ ap (λ (l : List (Option (List ℕ))). slice_get l 0) (sym same)) ∙ g.0
 
 pub lines_behind : (lines : List (Option (List ℕ))) (k : ℕ) (old new : Option (List ℕ)) (text : List ℕ)
@@ -52,7 +52,7 @@ pub lines_behind : (lines : List (Option (List ℕ))) (k : ℕ) (old new : Optio
 lines_behind lines k None new text h g = absurd (cc h.1)
 lines_behind lines k (Some xs) None text h g = absurd g
 lines_behind lines k (Some xs) (Some ys) text h g =
-    let same : certificate_lines xs ≡ drop k lines = ap certificate_lines (some_is xs h.0 h.1) ∙ h.2 in
+    let same : certificate_lines xs ≡ drop k lines = ap certificate_lines (same_Some xs h.0 h.1) ∙ h.2 in
     let n : k + 1 ≡ suc k = omega arith in
     (ys, refl, g.1 ∙ ap (drop 1) same ∙ drop-drop 1 k lines ∙ ap (λ m. drop m lines) n)
 
@@ -86,7 +86,7 @@ Stands p text r d k i taken s left rec = StandsFrom p (start p d.first) text r d
 pub cut_of : (o : Option (Option (List ℕ))) (line : Option (List ℕ))
     → option_map cut o ≡ Some line → (raw : Option (List ℕ)) × (o ≡ Some raw) × (cut raw ≡ line)
 cut_of None line e = absurd (cc e)
-cut_of (Some raw) line e = (raw, refl, some_is (cut raw) line e)
+cut_of (Some raw) line e = (raw, refl, same_Some (cut raw) line e)
 
 -- a line that is cut is none of a version that reads it
 read_cut : (v : Version) (raw : Option (List ℕ)) → read_as v (cut raw) ≡ cut (read_as v raw)

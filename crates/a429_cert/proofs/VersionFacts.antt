@@ -1,5 +1,5 @@
 -- The lines of steps, as a version reads them.
-use Rattle.std.proofs.Common.{◌≡◌, ◌++◌, ℕ, List, [], ◌∷◌, map, drop, slice_get, Bool, true, false, ◌||◌, ◌==◌, if◌then◌else◌, Option, Some, None, refl, sym, ap, ◌∙◌, subst}
+use Rattle.std.proofs.Common.{◌≡◌, ◌++◌, ℕ, List, [], ◌∷◌, map, drop, slice_get, Bool, true, false, ◌==◌, if◌then◌else◌, Option, Some, None, refl, sym, ap, ◌∙◌, subst}
 use Rattle.a429_profile.specs.Profile.{Contents}
 use Rattle.a429_link.specs.declared.seen.Seen.{Seen}
 use Rattle.a429_link.specs.declared.step.Step.{Step}
@@ -13,6 +13,8 @@ use Rattle.a429_cert.specs.declared.line.CertLine.TheVariants.{First, Load, Move
 use Rattle.a429_cert.specs.declared.version.Version.{Version}
 use Rattle.a429_cert.specs.declared.version.Version.TheVariants.{One, Two}
 use Rattle.std.specs.Fmt.{decimal}
+use Rattle.std.proofs.lemmas.Option.{same_Some}
+use Rattle.std.proofs.lemmas.Bool.{or_parts}
 use Rattle.a429_cert.specs.Field.{field}
 use Rattle.a429_cert.specs.States.{source_text, sink_text}
 use Rattle.a429_cert.specs.Act.{act_text, step_with}
@@ -21,7 +23,6 @@ use Rattle.a429_cert.specs.Explained.{step_of, ListsStep, ListsSteps, Explains}
 use Rattle.a429_cert.specs.Lines.{certificate_lines}
 use Rattle.a429_cert.proofs.NoFault.{other_digit}
 use Rattle.a429_cert.specs.Version.{version_line, without_x, read_as, is_give_up, gives_up, least_version}
-use Rattle.a429_cert.proofs.Options.{some_is}
 
 -- ---- a line of another step is read by both versions
 
@@ -36,7 +37,7 @@ act_kept act.SinkTakes next a f g h k e n = refl
 act_kept act.Silent next a f g h k e n = refl
 act_kept act.Answered next a f g h k e n = refl
 act_kept act.FreeSeen next a f g h k e n = refl
-act_kept act.GiveUp next a f g h k e n = absurd (cc (some_is step.GiveUp a e, n))
+act_kept act.GiveUp next a f g h k e n = absurd (cc (same_Some step.GiveUp a e, n))
 
 step_kept : (p : Contents) (text : List ℕ) (a : Step) (s : State) → ListsStep p text a s → is_give_up a ≡ false → without_x text ≡ Some text
 step_kept p text a s t n = by t.line t.spelled.spelled t.step
@@ -49,10 +50,6 @@ step_kept p text a s t n = by t.line t.spelled.spelled t.step
         (act_kept m.act t.next a (field (source_text m.states.source)) (field (sink_text m.states.sink)) (field (decimal m.states.to_sink))
         (field (decimal m.states.to_source)) g n)
 
-none_of_both : (a b : Bool) → (a || b) ≡ false → (a ≡ false) × (b ≡ false)
-none_of_both false b e = (refl, e)
-none_of_both true b e = absurd (cc e)
-
 -- steps of which none gives a file up are listed under version 1 too
 pub lists_read : (p : Contents) (lines : List (Option (List ℕ))) (steps : List Step) (s : State)
     → ListsSteps p lines steps s → gives_up steps ≡ false → ListsSteps p (map (read_as One) lines) steps s
@@ -61,33 +58,33 @@ lists_read p [] (b ∷ steps) s h n = absurd h
 lists_read p (None ∷ lines) steps s h n = absurd h
 lists_read p (Some text ∷ lines) [] s h n = absurd h
 lists_read p (Some text ∷ lines) (b ∷ steps) s h n =
-    let both = none_of_both (is_give_up b) (gives_up steps) n in
+    let both = or_parts (is_give_up b) (gives_up steps) n in
     rw (step_kept p text b s h.0 both.0) (h.0, lists_read p lines steps (after p b s) h.1 both.1)
 
 -- ---- and the other way round
 
 kept_same : (text kept : List ℕ) → without_x text ≡ Some kept → kept ≡ text
-kept_same [] kept e = sym (some_is [] kept e)
+kept_same [] kept e = sym (same_Some [] kept e)
 kept_same (b ∷ text) kept e = by (b == 120) e
   where
     by : (is_x : Bool) → (if is_x then None else Some (b ∷ text)) ≡ Some kept → kept ≡ b ∷ text
     by true e = absurd (cc e)
-    by false e = sym (some_is (b ∷ text) kept e)
+    by false e = sym (same_Some (b ∷ text) kept e)
 
 act_no_give_up : (x : Act) (next : Option Seen) (a : Step) (f g h k kept : List ℕ)
     → step_with x next ≡ Some a → without_x (act_text x ++ f ++ g ++ h ++ k) ≡ Some kept → is_give_up a ≡ false
 act_no_give_up act.Sent None a f g h k kept e w = absurd (cc e)
-act_no_give_up act.Sent (Some i) a f g h k kept e w = subst (λ b. is_give_up b ≡ false) (some_is (step.Sent i) a e) refl
-act_no_give_up act.SentLost next a f g h k kept e w = subst (λ b. is_give_up b ≡ false) (some_is step.SentLost a e) refl
-act_no_give_up act.TimeOut next a f g h k kept e w = subst (λ b. is_give_up b ≡ false) (some_is step.TimeOut a e) refl
-act_no_give_up act.TakeAnswer next a f g h k kept e w = subst (λ b. is_give_up b ≡ false) (some_is step.TakeAnswer a e) refl
-act_no_give_up act.LoseAnswer next a f g h k kept e w = subst (λ b. is_give_up b ≡ false) (some_is step.LoseAnswer a e) refl
-act_no_give_up act.SinkTakes next a f g h k kept e w = subst (λ b. is_give_up b ≡ false) (some_is step.SinkTakes a e) refl
-act_no_give_up act.Silent next a f g h k kept e w = subst (λ b. is_give_up b ≡ false) (some_is step.Silent a e) refl
+act_no_give_up act.Sent (Some i) a f g h k kept e w = subst (λ b. is_give_up b ≡ false) (same_Some (step.Sent i) a e) refl
+act_no_give_up act.SentLost next a f g h k kept e w = subst (λ b. is_give_up b ≡ false) (same_Some step.SentLost a e) refl
+act_no_give_up act.TimeOut next a f g h k kept e w = subst (λ b. is_give_up b ≡ false) (same_Some step.TimeOut a e) refl
+act_no_give_up act.TakeAnswer next a f g h k kept e w = subst (λ b. is_give_up b ≡ false) (same_Some step.TakeAnswer a e) refl
+act_no_give_up act.LoseAnswer next a f g h k kept e w = subst (λ b. is_give_up b ≡ false) (same_Some step.LoseAnswer a e) refl
+act_no_give_up act.SinkTakes next a f g h k kept e w = subst (λ b. is_give_up b ≡ false) (same_Some step.SinkTakes a e) refl
+act_no_give_up act.Silent next a f g h k kept e w = subst (λ b. is_give_up b ≡ false) (same_Some step.Silent a e) refl
 act_no_give_up act.Answered None a f g h k kept e w = absurd (cc e)
-act_no_give_up act.Answered (Some i) a f g h k kept e w = subst (λ b. is_give_up b ≡ false) (some_is (step.Answered i) a e) refl
+act_no_give_up act.Answered (Some i) a f g h k kept e w = subst (λ b. is_give_up b ≡ false) (same_Some (step.Answered i) a e) refl
 act_no_give_up act.FreeSeen None a f g h k kept e w = absurd (cc e)
-act_no_give_up act.FreeSeen (Some i) a f g h k kept e w = subst (λ b. is_give_up b ≡ false) (some_is (step.FreeSeen i) a e) refl
+act_no_give_up act.FreeSeen (Some i) a f g h k kept e w = subst (λ b. is_give_up b ≡ false) (same_Some (step.FreeSeen i) a e) refl
 act_no_give_up act.GiveUp next a f g h k kept e w = absurd (cc w)
 
 step_no_give_up : (p : Contents) (text kept : List ℕ) (a : Step) (s : State)
@@ -96,7 +93,7 @@ step_no_give_up p text kept a s t k = by t.line t.spelled.spelled t.step
   where
     by : (l : CertLine) → text ≡ spelling l → step_of l t.next ≡ Some a → is_give_up a ≡ false
     by (First f) e g = absurd (cc g)
-    by (Load u) e g = subst (λ b. is_give_up b ≡ false) (some_is _ a g) refl
+    by (Load u) e g = subst (λ b. is_give_up b ≡ false) (same_Some _ a g) refl
     by (Moved m) e g =
         act_no_give_up m.act t.next a (field (source_text m.states.source)) (field (sink_text m.states.sink))
         (field (decimal m.states.to_sink)) (field (decimal m.states.to_source)) kept g (ap without_x (sym e) ∙ k)
@@ -159,5 +156,5 @@ upgraded p rest items first steps h = by h.version h.header h.lists
           kept.1,
         )
     by Two e lists =
-        absurd (other_digit (some_is 49 50 (ap (λ (l : List ℕ). slice_get l 14)
-        (some_is (version_line One) (version_line Two) (some_is _ _ (ap (λ (l : List (Option (List ℕ))). slice_get l 0) e))))))
+        absurd (other_digit (same_Some 49 50 (ap (λ (l : List ℕ). slice_get l 14)
+        (same_Some (version_line One) (version_line Two) (same_Some _ _ (ap (λ (l : List (Option (List ℕ))). slice_get l 0) e))))))

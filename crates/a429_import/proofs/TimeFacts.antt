@@ -25,8 +25,6 @@ time_digits text h =
 pub no_digits : AreFewDigits []
 no_digits = record { few = omega arith; digits = tt }
 
--- ---- digits after others
-
 -- ---- a number is 0 where each of its digits is
 
 no_zero : (d : ℕ) → digit_value d < 10 → (d == 48) ≡ false → 1 ≤ digit_value d

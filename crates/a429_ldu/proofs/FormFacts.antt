@@ -134,7 +134,8 @@ pub form_on-found : (c : Codes) (b : Bus) (w : ℕ) (x : Form) → AreDistinct c
 form_on-found c b w x d is = ap (λ o. form_on c o (fields_of w)) is.bus ∙ ap (form_on c (bus_of x)) is.fields ∙ row_told c d x is.range
 
 pub one_form : (p : Contents) → IsProfile p → (b : Bus) (w : ℕ) (x y : Form) → IsForm p.codes b w x → IsForm p.codes b w y → x ≡ y
-one_form p is b w x y hx hy = let d = distinct p is in same_Some _ _ (sym (form_on-found p.codes b w x d hx) ∙ form_on-found p.codes b w y d hy)
+one_form p is b w x y hx hy =
+    let d = distinct p is in same_Some _ _ (sym (form_on-found p.codes b w x d hx) ∙ form_on-found p.codes b w y d hy)
 
 -- the form that is found in a word of good parity with the label of its bus
 pub told_form : (c : Codes) (b : Bus) (w : ℕ) (x : Form)

@@ -465,4 +465,5 @@ weave_goes p (i ∷ items) gs s r h =
 pub start_ready : (p : Contents) (file : ℕ) (us : List LduValue)
     → file ≤ 255 → AllFit p (first_number p.codes file) us → Ready p (first_number p.codes file) None nothing_received us
 start_ready p file [] f h = tt
-start_ready p file (u ∷ us) f h = record { new = refl; follows = eq-eqb p.codes.first_ldu p.codes.first_ldu refl; byte = f; room = h.1; kept = refl }
+start_ready p file (u ∷ us) f h =
+    record { new = refl; follows = eq-eqb p.codes.first_ldu p.codes.first_ldu refl; byte = f; room = h.1; kept = refl }

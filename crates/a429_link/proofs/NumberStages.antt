@@ -36,8 +36,6 @@ use Rattle.a429_link.proofs.LatestAttempt.{joins}
 use Rattle.a429_link.proofs.NumbersCome.{start_has_number}
 use Rattle.a429_link.specs.Trace.{sink_sees}
 
--- ---- lists
-
 -- ---- the words of the attempt, by messages
 
 abbrev pub joined : Bus → ℕ → Option Message → List ℕ → List ℕ

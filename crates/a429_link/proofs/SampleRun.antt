@@ -16,7 +16,7 @@ use Rattle.a429_link.specs.Step.{after}
 use Rattle.a429_link.specs.State.{start, State, sink_state_of}
 use Rattle.a429_link.specs.Run.{IsRun, trace, delivered, offered, settled}
 
-abbrev sample : Contents
+abbrev pub sample : Contents
 sample = record {
   codes = record {
     to_sink = 196;

@@ -162,7 +162,7 @@ pub step_alike : (p : Contents)
 step_alike p good a s k h c (inl e) = step_on p good a s k h c e
 step_alike p good a s k h c (inr r) = step_off p good a s k h c r
 
-sink_from_label : (p : Contents) (l : Option Seen) (items : List Seen) (k : Sink)
+pub sink_from_label : (p : Contents) (l : Option Seen) (items : List Seen) (k : Sink)
     → sink_after p items (sees p l k) ≡ sink_after p (with_label l items) k
 sink_from_label p None items k = refl
 sink_from_label p (Some i) items k = refl

@@ -22,8 +22,10 @@ HasNoEnd-append (x ∷ xs) ys p q = (p.0, HasNoEnd-append xs ys p.1 q)
 none_passes : (bs : List ℕ) (n : ℕ) → ((k : ℕ) → 0 ≤ k → k < n → Passes (is_byte 10) bs k → ⊥) → HasNoEnd (take n bs)
 none_passes bs zero h = tt
 none_passes [] (suc n) h = tt
-none_passes (b ∷ bs) (suc n) h =
-    (false_from_ne_true (b == 10) (h 0 (omega arith) (omega arith)), none_passes bs n (λ k least below. h (suc k) (omega arith) (omega arith)))
+none_passes (b ∷ bs) (suc n) h = (
+  false_from_ne_true (b == 10) (h 0 (omega arith) (omega arith)),
+  none_passes bs n (λ k least below. h (suc k) (omega arith) (omega arith)),
+)
 
 pub end_found : (bs : List ℕ) (r : Option ℕ)
     → IsFirstByte (is_byte 10) bs r → IfSome r (λ n. (n < length bs) × HasNoEnd (take n bs) × (slice_index bs n ≡ 10))

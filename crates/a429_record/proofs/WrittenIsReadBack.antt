@@ -9,7 +9,7 @@ use Rattle.std.proofs.lemmas.List.{append-nil, map-append}
 use Rattle.csv.proofs.OnLiterals.{csv_on_literals}
 use Rattle.a429_word.specs.declared.bus.Bus.{Bus}
 use Rattle.a429_word.specs.declared.bus.Bus.TheVariants.{A, B}
-use Rattle.a429_word.specs.Digits.{numeral, hex_text, ReadsHex}
+use Rattle.a429_word.specs.Digits.{hex_text, ReadsHex}
 use Rattle.a429_word.specs.Bus.{bus_text}
 use Rattle.a429_word.proofs.DigitsFacts.{hex_text-read, AllDigits-numeral, length-hex_text}
 use Rattle.a429_record.specs.declared.entry.Entry.{Entry}

@@ -15,7 +15,8 @@ same_digit : (c d : ℕ) → digit_value c < 10 → digit_value c ≡ digit_valu
 same_digit c d h e = grind (arith, nat_tests)
 
 -- digits after others
-pub value_after-append : (a : ℕ) (xs ys : List ℕ) → digits_value_after 10 a (xs ++ ys) ≡ digits_value_after 10 (digits_value_after 10 a xs) ys
+pub value_after-append : (a : ℕ) (xs ys : List ℕ)
+    → digits_value_after 10 a (xs ++ ys) ≡ digits_value_after 10 (digits_value_after 10 a xs) ys
 value_after-append a [] ys = refl
 value_after-append a (x ∷ xs) ys = value_after-append (a * 10 + digit_value x) xs ys
 

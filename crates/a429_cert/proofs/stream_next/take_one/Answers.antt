@@ -1,26 +1,26 @@
 use Rattle.std.proofs.Common.{◌≡◌, ◌+◌, inl, inr, ℕ, List, true, false, Option, IsSome, ap, refl, sym, subst, arith}
+use Rattle.std.proofs.lemmas.Bool.{not-false, not-true}
 use Rattle.a429_cert.specs.declared.replay.Replay.{Replay}
 use Rattle.a429_cert.specs.CutLines.{GivesLine}
 use Rattle.a429_cert.specs.LineReader.{bytes_ahead, held_line, to_come}
 use Rattle.a429_cert.specs.Lines.{line_bytes}
-use Rattle.a429_cert.proofs.LikelyFacts.{is_yes, is_no}
 use Rattle.a429_cert.proofs.TriesFacts.{tries_none}
 use Rattle.a429_cert.proofs.stream_next.take_one.Goals as goal
 
 pub overflow_add-replay : goal.overflow_add-replay
 overflow_add-replay g c =
-    let found : c.in-Ok.next.found ≡ true = is_yes c.in-Ok.next.found c.if-not-next.false in
+    let found : c.in-Ok.next.found ≡ true = not-false c.in-Ok.next.found c.if-not-next.false in
     omega (arith, c.requires.room, c.in-Ok.ensures.room found)
 
 pub overflow_add-replay-in-Ok-replay_and_put : goal.overflow_add-replay-in-Ok-replay_and_put
 overflow_add-replay-in-Ok-replay_and_put g c =
     let used : c.replay_and_put.new.replay.used ≡ c.args.replay.now.used = ap (λ (w : Replay). w.used) c.replay_and_put.ensures.kept in
-    let found : c.in-Ok.next.found ≡ true = is_yes c.in-Ok.next.found c.if-not-next.false in
+    let found : c.in-Ok.next.found ≡ true = not-false c.in-Ok.next.found c.if-not-next.false in
     omega (arith, used, c.in-Ok-replay_and_put.ensures.ok.few, c.requires.few, c.requires.room, c.in-Ok.ensures.room found)
 
 pub returns-in-Ok-replay_and_put-clause-further : goal.returns-in-Ok-replay_and_put-clause-further
 returns-in-Ok-replay_and_put-clause-further g c = λ _.
-    let found : c.in-Ok.next.found ≡ true = is_yes c.in-Ok.next.found c.if-not-next.false in
+    let found : c.in-Ok.next.found ≡ true = not-false c.in-Ok.next.found c.if-not-next.false in
     let left = to_come g.C.Read.remaining c.args.lines.now c.args.cert.now in
     let more = to_come g.C.Read.remaining c.next_near.new.self c.next_near.new.cert in
     let ok = c.in-Ok-replay_and_put.ensures.ok in
@@ -53,7 +53,7 @@ returns-in-Ok-replay_and_put-clause-further g c = λ _.
 
 pub returns-then-not-next-clause-at_end : goal.returns-then-not-next-clause-at_end
 returns-then-not-next-clause-at_end g c = λ _.
-    let found : c.in-Ok.next.found ≡ false = is_no c.in-Ok.next.found c.if-not-next.true in
+    let found : c.in-Ok.next.found ≡ false = not-true c.in-Ok.next.found c.if-not-next.true in
     let left = to_come g.C.Read.remaining c.args.lines.now c.args.cert.now in
     let more = to_come g.C.Read.remaining c.next_near.new.self c.next_near.new.cert in
     record {
@@ -89,7 +89,7 @@ returns-in_default-clause-halted g c = record {
 
 pub returns-in-Err-clause-halted : goal.returns-in-Err-clause-halted
 returns-in-Err-clause-halted g c =
-    let found : c.in-Ok.next.found ≡ true = is_yes c.in-Ok.next.found c.if-not-next.false in
+    let found : c.in-Ok.next.found ≡ true = not-false c.in-Ok.next.found c.if-not-next.false in
     let left = to_come g.C.Read.remaining c.args.lines.now c.args.cert.now in
     let more = to_come g.C.Read.remaining c.next_near.new.self c.next_near.new.cert in
     let err = c.in-Err.ensures.err in
