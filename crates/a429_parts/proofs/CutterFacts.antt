@@ -10,6 +10,7 @@ use Rattle.a429_record.specs.declared.entry.Entry.{Entry}
 use Rattle.a429_link.specs.declared.seen.Seen.{Seen}
 use Rattle.a429_link.specs.Observer.{Observer}
 use Rattle.a429_cert.specs.Explained.{items_of, seen_of}
+use Rattle.a429_cert.proofs.ItemsFacts.{items_append, length-items_of}
 use Rattle.a429_parts.specs.declared.doubt.Doubt.{Doubt}
 use Rattle.a429_parts.specs.declared.doubt.Doubt.TheVariants.{AfterUnit, Anew}
 use Rattle.a429_parts.specs.Cutter.{AwaitsPlace, Cuts, CutsAlways, CutterState, EndsLast, EndsNowhere, HasNoPart, IsCurrent, IsFoundInTime, IsInReach, IsNextPart, IsNextPartAtEnd, IsPart, IsPastDoubt}
@@ -186,16 +187,8 @@ cuts_less p parted rest size old new part begin place watched waiting h = record
 
 -- ---- no place is missed
 
-items_append : (xs ys : List Entry) → items_of (xs ++ ys) ≡ items_of xs ++ items_of ys
-items_append [] ys = refl
-items_append (x ∷ xs) ys = ap (λ (l : List Seen). seen_of x ∷ l) (items_append xs ys)
-
 nothing_left : (items : List Seen) (n : ℕ) → n ≡ length items → drop n items ≡ []
 nothing_left items n is = drop_of_length-le items (omega (arith, is))
-
-length_items : (xs : List Entry) → length (items_of xs) ≡ length xs
-length_items [] = refl
-length_items (x ∷ xs) = ap suc (length_items xs)
 
 -- where nothing comes any more, the place in doubt is none
 doubt_by : (p : Contents) (items : List Seen) (n m : ℕ) (observer : Option Observer) (doubt : Option Doubt)
@@ -213,7 +206,7 @@ module _ (p : Contents) (parted : List Entry) (c : CutterState) (cuts : CutsAlwa
   length_came = omega (arith, length-append parted (c.waiting ++ []), ap length (append-nil c.waiting), (cuts []).begin)
 
   count_came : c.watched.count ≡ length (items_of came)
-  count_came = omega (arith, (cuts []).count, length_items came, length_came, (cuts []).begin)
+  count_came = omega (arith, (cuts []).count, length-items_of came, length_came, (cuts []).begin)
 
   -- a place of the entries that came is not after the last one
   came_place : (n : ℕ) → n < c.begin + length c.waiting → IsPlace p (items_of came) n → n ≤ c.place

@@ -1,6 +1,7 @@
 -- What a watch knows after one word more.
 use Rattle.std.proofs.Common.{◌≡◌, ◌≢◌, ℕ, zero, suc, List, [], ◌∷◌, drop, Option, Some, None, Result, Ok, Err, refl, sym, ap, ◌∙◌, subst, inl, inr}
 use Rattle.std.specs.Prelude.{slice_get, IsOk, OnOk}
+use Rattle.std.proofs.lemmas.Option.{same_Some}
 use Rattle.a429_word.specs.declared.bus.Bus.{Bus}
 use Rattle.a429_word.specs.declared.bus.Bus.TheVariants as bus
 use Rattle.a429_profile.specs.Profile.{Contents}
@@ -34,22 +35,19 @@ step_once p Lost i rest c d (inl a) (inr b) = absurd (b.0 a.0)
 step_once p Lost i rest c d (inr a) (inl b) = absurd (a.0 b.0)
 step_once p Lost i rest c d (inr a) (inr b) = a.1 ∙ sym b.1
 
-some_same : {A : Type 0} (x y : A) → Some x ≡ Some y → x ≡ y
-some_same x y e = cc e
-
 pub same_course : (p : Contents) (items : List Seen) (n : ℕ) (c d : Course) → CourseAfter p items n c → CourseAfter p items n d → c ≡ d
 same_course p items zero c d a b = a ∙ sym b
 same_course p items (suc n) c d (x, i, before_x, get_x, goes_x) (y, j, before_y, get_y, goes_y) =
     step_once p y j (drop (suc n) items) c d
     (subst (λ (q : Course). GoesOn p q j (drop (suc n) items) c) (same_course p items n x y before_x before_y)
-    (subst (λ (k : Seen). GoesOn p x k (drop (suc n) items) c) (some_same i j (sym get_x ∙ get_y)) goes_x))
+    (subst (λ (k : Seen). GoesOn p x k (drop (suc n) items) c) (same_Some i j (sym get_x ∙ get_y)) goes_x))
     goes_y
 
 -- the last step of a course
 pub last_step : (p : Contents) (items : List Seen) (n : ℕ) (i : Seen) (c : Course) → slice_get items n ≡ Some i
     → CourseAfter p items (suc n) c → (before : Course) × CourseAfter p items n before × GoesOn p before i (drop (suc n) items) c
 last_step p items n i c get (x, j, before, get_j, goes) =
-    (x, before, subst (λ (k : Seen). GoesOn p x k (drop (suc n) items) c) (some_same j i (sym get_j ∙ get)) goes)
+    (x, before, subst (λ (k : Seen). GoesOn p x k (drop (suc n) items) c) (same_Some j i (sym get_j ∙ get)) goes)
 
 -- ---- the course goes on
 

@@ -1,12 +1,8 @@
 -- What an observer's last end word was.
-use Rattle.std.proofs.Common.{◌≡◌, ℕ, Bool, true, false, if◌then◌else◌, Option, Some, None, option_map, refl, sym, ◌∙◌, subst}
+use Rattle.std.proofs.Common.{◌≡◌, ℕ, Bool, true, false, if◌then◌else◌, Option, Some, option_map, refl, sym, subst}
 use Rattle.a429_word.specs.declared.bus.Bus.{Bus}
 use Rattle.a429_word.specs.declared.bus.Bus.TheVariants as bus
-use Rattle.a429_profile.specs.declared.codes.Codes.{Codes}
 use Rattle.a429_profile.specs.Profile.{Contents}
-use Rattle.a429_ldu.proofs.SightFacts.{form_of-sight}
-use Rattle.a429_ldu.specs.Form.{form_of, is_free}
-use Rattle.a429_ldu.specs.Sight.{form_in, sight_in}
 use Rattle.a429_ldu.specs.declared.forms.Form.{Form}
 use Rattle.a429_ldu.specs.declared.forms.Form.TheVariants.{Eot}
 use Rattle.a429_ldu.specs.declared.sight.Sight.TheVariants as sight
@@ -14,11 +10,6 @@ use Rattle.a429_link.specs.declared.number.UnitNumber.{UnitNumber}
 use Rattle.a429_link.specs.Observer.{Observer, AllowsForm, HasGrant, sees_form}
 use Rattle.a429_link.specs.Sink.{MayAnswer, Number, SinkPhase, Quiet, OwesClear, Granted, InBlock, OwesAck, OwesNak, at_end, end_word, is_good}
 use Rattle.a429_parts.specs.Follower.{HasEnded, Remembers}
-
--- a free word has no form
-pub free_none : (c : Codes) (b : Bus) (w : ℕ) → is_free c b w ≡ true → form_of c b w ≡ None
-free_none c b w free =
-    sym (form_of-sight c b w) ∙ subst (λ (t : Bool). form_in (if t then sight.Free else sight_in (form_of c b w)) ≡ None) (sym free) refl
 
 ended : (p : Contents) (last : Option Number) (count flags check : ℕ) (phase : SinkPhase)
     → HasGrant phase → HasEnded flags (at_end p last count (end_word flags check) phase)

@@ -1,8 +1,10 @@
 -- Each part of a run's recording is the recording of a run.
 use Rattle.std.proofs.Common.{◌≡◌, ℕ, zero, suc, ◌<◌, Bool, true, false, cond, ◌&&◌, not, List, [], ◌∷◌, ◌++◌, length, take, drop, Option, Some, None, slice_get, refl, sym, ap, ◌∙◌, subst, inl, inr, arith}
 use Rattle.std.proofs.lemmas.List.{take-append-drop}
+use Rattle.std.proofs.lemmas.Option.{slice_get_within}
 use Rattle.a429_word.specs.declared.bus.Bus.{Bus}
 use Rattle.a429_word.specs.declared.bus.Bus.TheVariants as bus
+use Rattle.a429_word.proofs.ListFacts.{next_item}
 use Rattle.a429_profile.specs.declared.codes.Codes.{Codes}
 use Rattle.a429_profile.specs.Profile.{Contents}
 use Rattle.a429_ldu.specs.declared.forms.Form.{Form}
@@ -34,6 +36,7 @@ use Rattle.a429_link.proofs.SinkFromTrace.{sees as sink_saw}
 use Rattle.a429_link.proofs.StateConfigs.{Config, asked, idle, may_owes, sending, sink_at, source_at, unasked, waiting, whole}
 use Rattle.a429_link.proofs.StateHolds.{HoldsAt, alone_on_the_way, next_in_range, owed_form, sends, start_holds, step_holds}
 use Rattle.a429_link.proofs.TraceFiles.{files_delivered, observed_sink}
+use Rattle.a429_link.proofs.ObserverMore.{observed_more}
 use Rattle.a429_parts.specs.Alone.{IsRunAlone}
 use Rattle.a429_parts.specs.Cutting.{Course, Follows, Lost, CourseAfter, GoesOn, IsPlace, LeavesBy, LeavesUnit, MayCut, crossing, crossing_of}
 use Rattle.a429_parts.specs.Kept.{HasRun}
@@ -334,22 +337,6 @@ front_of p (a ∷ steps) s (x ∷ xs) ys e run = by (λ zs more. front_of p step
 
 -- ---- the course of a run is never lost
 
-observed_next : (p : Contents) (items : List Seen) (n : ℕ) (i : Seen) (o : Observer)
-    → slice_get items n ≡ Some i → observed p (take (suc n) items) o ≡ sees p i (observed p (take n items) o)
-observed_next p [] n i o get = absurd (cc get)
-observed_next p (x ∷ xs) zero i o get = ap (λ (j : Seen). sees p j o) (cc get)
-observed_next p (x ∷ xs) (suc n) i o get = observed_next p xs n i (sees p x o) get
-
-words_next : (items : List Seen) (n : ℕ) (i : Seen) → slice_get items n ≡ Some i → take (suc n) items ≡ take n items ++ i ∷ []
-words_next [] n i get = absurd (cc get)
-words_next (x ∷ xs) zero i get = ap (λ (j : Seen). j ∷ []) (cc get)
-words_next (x ∷ xs) (suc n) i get = ap (λ (l : List Seen). x ∷ l) (words_next xs n i get)
-
-some_within : (items : List Seen) (n : ℕ) (i : Seen) → slice_get items n ≡ Some i → n < length items
-some_within [] n i get = absurd (cc get)
-some_within (x ∷ xs) zero i get = omega arith
-some_within (x ∷ xs) (suc n) i get = omega (arith, some_within xs n i get)
-
 not_refused : (p : Contents) (r : RunOf p) (n : ℕ) → IsRefused p (trace r.steps) n → ⊥
 not_refused p r n refused =
     let is = r.is_run in
@@ -375,7 +362,7 @@ follows_run p items (suc n) course allowed (before, i, at, get, goes) =
     by crossed (inl (allows, is)) = (
       crossing p (observed p (take n items) at_first) i,
       is ∙ ap (λ (o : Observer). Follows o (crossing p (observed p (take n items) at_first) i))
-          (sym (observed_next p items n i at_first get)),
+          (sym (observed_more p items n i at_first get)),
     )
     by crossed (inr (refuses, is)) = absurd (allowed n (λ a. refuses (subst (AllowsNext p (observed p (take n items) at_first)) get a)))
 
@@ -450,7 +437,7 @@ part_at p r n i unit part behind get crosses others e =
     let s = start p r.first in
     let c =
     reach p good r.steps s sink_at_first nothing_received [] n is.run (start_holds p r.first is.byte)
-    (start_books p r.first is.byte).crosses (inl refl) (some_within items n i get) in
+    (start_books p r.first is.byte).crosses (inl refl) (slice_get_within items n i get) in
     let at = end_of p c.front s in
     let f = front_of p c.back (after p c.step at) part behind (c.last_words ∙ e) c.back_run in
     let item : c.item ≡ i = cc (c.get, get) in
@@ -470,7 +457,7 @@ part_at p r n i unit part behind get crosses others e =
     let before_words : trace before ≡ take (suc n) items =
     trace_append c.front (c.step ∷ []) ∙ ap (λ (l : List Seen). l ++ trace (c.step ∷ [])) c.first_words
     ∙ ap (λ (l : Option Seen). take n items ++ with_label l []) (c.label_is ∙ ap (λ (j : Seen). Some j) item)
-    ∙ sym (words_next items n i get) in
+    ∙ sym (next_item n i items get) in
     let before_end : end_of p before s ≡ after p c.step at = end_append p c.front (c.step ∷ []) s in
     let before_files = files_delivered p good r.first is.byte before before_run (take (suc n) items) before_words in
     let all_run : IsRun p (before ++ f.steps) s =

@@ -1,6 +1,6 @@
 -- Parts, one more.
 use Rattle.std.proofs.Common.{◌≡◌, Bool, true, false, ◌+◌, ◌<◌, ◌≤◌, ◌⊎◌, ℕ, suc, List, [], ◌∷◌, ◌++◌, length, take, drop, Option, Some, None, Result, Ok, Err, append_assoc, append-nil, length-append, refl, sym, ap, ◌∙◌, subst, arith, inl, inr}
-use Rattle.std.specs.Prelude.{IfErr, IfOk, IfSome}
+use Rattle.std.specs.Prelude.{IfOk, IfSome}
 use Rattle.std.proofs.lemmas.List.{length-take-le, take-append-drop}
 use Rattle.a429_word.specs.declared.sheet.Sheet.{Sheet}
 use Rattle.a429_word.specs.Sheet.{Says}
@@ -115,7 +115,7 @@ gains_more (Some s) (Some t) (Some u) parts number es is h g =
     ∙ ap (λ (l : List NumberedPart). s.parts ++ l)
     (ap (λ (n : ℕ). numbered 1 parts ++ record { number = n; entries = es } ∷ []) (is ∙ omega arith) ∙ sym (numbered-push 1 parts es)))
 
-gains_same : (a b c : Option PutParts) (parts : List (List Entry)) → GainsParts a b parts → IsSame b c → GainsParts a c parts
+pub gains_same : (a b c : Option PutParts) (parts : List (List Entry)) → GainsParts a b parts → IsSame b c → GainsParts a c parts
 gains_same None b c parts h g = tt
 gains_same (Some s) None c parts h g = absurd h
 gains_same (Some s) (Some t) None parts h g = absurd g
@@ -409,14 +409,6 @@ progress_at_end p most o es s h = record {
   };
   puts = h.puts;
 }
-
-pub if_ok_map : {A E : Type 0} {P Q : A → Type 0} (r : Result A E) → IfOk r P → ((x : A) → P x → Q x) → IfOk r Q
-if_ok_map (Ok x) h f = f x h
-if_ok_map (Err e) h f = tt
-
-pub if_err_map : {A E : Type 0} {P Q : E → Type 0} (r : Result A E) → IfErr r P → ((e : E) → P e → Q e) → IfErr r Q
-if_err_map (Ok x) h f = tt
-if_err_map (Err e) h f = f e h
 
 -- all entries came
 pub cuts_all : {W : Type 0} (p : Contents) (most : ℕ) (o : Outputs W) (t : Taken) (left new : Option Recording) (es : List Entry)

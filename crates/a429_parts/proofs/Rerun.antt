@@ -27,7 +27,8 @@ use Rattle.a429_link.proofs.NumbersCome.{start_has_number}
 use Rattle.a429_link.proofs.RunCrossing.{CrossesAt, IsAck, step_crosses}
 use Rattle.a429_link.proofs.StateConfigs.{may_answer, may_owes, sink_at, source_at}
 use Rattle.a429_link.proofs.StateHolds.{HoldsAt, owed_form, sends, step_holds}
-use Rattle.a429_parts.proofs.RerunStates.{state, Rerun, both_step, one_step, crossed, AskedAlike, asked_count, EndsAlike, take_both, IsLater, one_state, other_state, Later, owes_not_quiet, later_rerun}
+use Rattle.a429_link.proofs.SinkFromTrace.{quiet_owes}
+use Rattle.a429_parts.proofs.RerunStates.{state, Rerun, both_step, one_step, crossed, AskedAlike, asked_count, EndsAlike, take_both, IsLater, one_state, other_state, Later, later_rerun}
 
 -- ---- the source has not heard the acknowledgement, and sends the last unit again under another number
 
@@ -405,7 +406,7 @@ repeat_rerun p good unit byte u (a ∷ steps) g sp received count other kp ws vs
         (go g sp received count other Quiet ws vs _ _ run holds_on crosses_on tt startless ackless (inl refl) others)
     by go (Answered i) can run holds_on crosses_on others =
         let r = owed_form p s i can in
-        let same = asked_count kp count other alike (owes_not_quiet kp (may_owes count kp r.said r.owed)) in
+        let same = asked_count kp count other alike (λ quiet. quiet_owes kp quiet (may_owes count kp r.said r.owed)) in
         repeat_answers p unit u steps go i r.said g sp received count other kp ws vs _ _ r.is r.owed (
           can.0,
           subst (λ (n : ℕ). MayAnswerForm n kp (form_of p.codes bus.B i.word)) same can.1,

@@ -17,7 +17,7 @@ use Rattle.a429_link.specs.declared.step.Step.TheVariants.{Answered, FreeSeen, G
 use Rattle.a429_link.specs.Link.{with_earlier}
 use Rattle.a429_link.specs.Number.{begins_file, files_past, first_number}
 use Rattle.a429_link.specs.Run.{IsRun, IsSubsequenceOf, end_of, offers, settles, trace, with_label}
-use Rattle.a429_link.specs.Sink.{Block, EndWord, Granted, InBlock, Listens, MayAnswerForm, Number, Owes, OwesAck, OwesClear, OwesNak, Quiet, Received, Sink, SinkPhase, accepts, at_end, at_part, at_start, emptied, end_word, in_phase, is_good, is_same, may_come, nothing_received, number_of, put}
+use Rattle.a429_link.specs.Sink.{Block, EndWord, Granted, InBlock, Listens, MayAnswerForm, Number, OwesAck, OwesClear, OwesNak, Quiet, Received, Sink, SinkPhase, accepts, at_end, at_part, at_start, emptied, end_word, in_phase, is_good, is_same, may_come, nothing_received, number_of, put}
 use Rattle.a429_link.specs.Source.{Source, with_answer_first}
 use Rattle.a429_link.specs.State.{IsNonEmpty, State}
 use Rattle.a429_link.specs.Step.{Can, after, label}
@@ -29,6 +29,7 @@ use Rattle.a429_link.proofs.RunCrossing.{CrossesAt, HasAccepted, HasAck, IsAck, 
 use Rattle.a429_link.proofs.StateConfigs.{Config, acked, asked, block_taken, cleared, front_words, idle, may_answer, may_owes, refused, sending, sink_at, source_at, unasked, unit_number, waiting, whole}
 use Rattle.a429_link.proofs.StateHolds.{HoldsAt, owed_form, step_holds}
 use Rattle.a429_link.proofs.Subsequence.{sub_forth, sub_take}
+use Rattle.a429_link.proofs.SinkFromTrace.{quiet_owes}
 
 abbrev pub state : Source → Sink → List ℕ → List ℕ → State
 state q k ws vs = record { source = q; sink = k; to_sink = ws; to_source = vs }
@@ -347,9 +348,6 @@ later_takes p unit byte steps go q received count other kp (w ∷ ws) vs (x ∷ 
     (subst (λ (k : Sink). Rerun p received.files steps (one_state unit q received t.now t.phase ws vs) (state q k ws vs))
     (sym second) next))
 
-pub owes_not_quiet : (kp : SinkPhase) → Owes kp → kp ≡ Quiet → ⊥
-owes_not_quiet kp owes quiet = subst Owes quiet owes
-
 whole_number : (number : UnitNumber) (cur : Option LduValue) (sp : SourceState) (count : ℕ) (b : Block) (flags : ℕ) (xs ys : List Message)
     → Config number cur sp count (OwesAck b flags) xs ys → number_of b ≡ number
 whole_number number cur sp count b flags xs ys (whole r h) = h.told
@@ -467,7 +465,7 @@ later_rerun p good unit byte (a ∷ steps) q received count other kp ws vs o fs 
         both_step p files Silent steps s t can (go _ received count other Quiet ws vs _ _ run holds_on crosses_on later (inl refl))
     by go (Answered i) can run holds_on crosses_on =
         let r = owed_form p s i can in
-        let same = asked_count kp count other alike (owes_not_quiet kp (may_owes count kp r.said r.owed)) in
+        let same = asked_count kp count other alike (λ quiet. quiet_owes kp quiet (may_owes count kp r.said r.owed)) in
         later_answers p unit byte steps go i r.said q received count other kp ws vs holds.xs holds.ys _ _ r.is r.owed (
           can.0,
           subst (λ (n : ℕ). MayAnswerForm n kp (form_of p.codes bus.B i.word)) same can.1,

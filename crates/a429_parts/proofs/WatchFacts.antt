@@ -13,6 +13,7 @@ use Rattle.a429_ldu.specs.Sight.{form_in, full_in, sight_in, sight_of}
 use Rattle.a429_ldu.specs.declared.sight.Sight.{Sight}
 use Rattle.a429_ldu.specs.declared.sight.Sight.TheVariants as sight
 use Rattle.a429_ldu.proofs.SightFacts.{form_of-sight}
+use Rattle.a429_ldu.proofs.FormFree.{free_none}
 use Rattle.a429_link.specs.declared.number.UnitNumber.{UnitNumber}
 use Rattle.a429_link.specs.declared.seen.Seen.{Seen}
 use Rattle.a429_link.specs.Sink.{IsAck, Number, SinkPhase, Quiet, OwesClear, Granted, InBlock, OwesAck, OwesNak, EndWord, at_end, at_part, end_word}
@@ -21,7 +22,6 @@ use Rattle.a429_parts.specs.declared.doubt.Doubt.{Doubt}
 use Rattle.a429_parts.specs.declared.doubt.Doubt.TheVariants.{AfterUnit, Anew}
 use Rattle.a429_parts.specs.Cutting.{Course, Follows, Lost, BeginsFile, CourseAfter, GoesOn, IsPlace, IsRequest, crossing, crossing_of, next_start}
 use Rattle.a429_parts.specs.Watch.{FindsAll, Finds, FollowsBy, FollowsWord, HasNoBlock, IsBetween, IsInDoubt, IsKnown, IsKnownIn, IsQuiet, KnowsFirst, Leaves, MakesCertain, RulesOut, SeesWord, Settles, SettlesDoubt, TakesWord, Watched, Watches, after_none, doubt_after, doubt_crossed, doubt_lost, doubt_refused, place_of}
-use Rattle.a429_parts.proofs.FollowerFacts.{free_none}
 use Rattle.a429_parts.proofs.CuttingFacts.{allows_by, crossed_in, last_step, leaves_none, lost_in, lost_on, lost_place, no_request, no_request_none, of_ok, ruled_out, same_course, seen_in, sees_none, settle_none, settle_place, begun_in, waits_on}
 
 -- ---- the place in doubt is settled

@@ -1,6 +1,7 @@
 use Rattle.std.proofs.Common.{◌≡◌, ◌+◌, ◌++◌, false, ◌∷◌, [], arith, length-append}
+use Rattle.a429_word.proofs.Outcomes.{if_ok_map, if_err_map}
 use Rattle.a429_parts.proofs.KeepingFacts.{came_first, came_more}
-use Rattle.a429_parts.proofs.PartsFacts.{cuts_all, cuts_before, cuts_until, cuts_until_end, few_wait, held_count, if_err_map, if_ok_map, puts_nothing}
+use Rattle.a429_parts.proofs.PartsFacts.{cuts_all, cuts_before, cuts_until, cuts_until_end, few_wait, held_count, puts_nothing}
 use Rattle.a429_parts.specs.Keeping.{taken}
 use Rattle.a429_parts.specs.Parting.{outputs}
 use Rattle.a429_parts.proofs.parting.put_parts.Goals as goal
