@@ -1,10 +1,11 @@
 -- What a word is held against.
-use Rattle.std.proofs.Common.{◌≡◌, ℕ, zero, suc, ◌+◌, Bool, true, false, eqb, eqb-true, List, [], ◌∷◌, length, take, Option, Some, None, IfSome, IfOk, Result, Ok, Err, slice_get, refl, sym, ap, ◌∙◌, subst, arith}
-use Rattle.std.proofs.lemmas.Bool.{and_parts}
+use Rattle.std.proofs.Common.{◌≡◌, ℕ, zero, suc, ◌+◌, Bool, true, false, List, [], ◌∷◌, length, take, Option, Some, None, IfSome, IfOk, Result, slice_get, refl, sym, ap, ◌∙◌, subst, arith}
 use Rattle.std.proofs.lemmas.List.{take-map}
+use Rattle.std.proofs.Math.Seq.{take-length}
 use Rattle.a429_word.specs.declared.bus.Bus.{Bus}
 use Rattle.a429_word.specs.declared.bus.Bus.TheVariants as bus
 use Rattle.a429_word.proofs.ListFacts.{next_item}
+use Rattle.a429_word.proofs.Outcomes.{each_some}
 use Rattle.a429_profile.specs.Profile.{Contents}
 use Rattle.a429_ldu.specs.declared.forms.Form.{Form}
 use Rattle.a429_ldu.specs.declared.forms.Form.TheVariants.{Rts, Cts, Ack, Nak, Sot, Part, Eot}
@@ -18,14 +19,12 @@ use Rattle.a429_link.specs.declared.why.Why.TheVariants as why
 use Rattle.a429_link.specs.Attempt.{Attempt}
 use Rattle.a429_link.specs.Contradiction.{SoFar, so_far}
 use Rattle.a429_link.specs.Implied.{Implied, does, doing_in, implied, implied_at_first, implies, implies_form, observer_of, why_at}
-use Rattle.a429_link.specs.Number.{is_number}
 use Rattle.a429_link.specs.Observer.{Observer, at_first, observed, sees, sees_form, sink_of}
 use Rattle.a429_link.specs.Sink.{Number, Sink, SinkPhase, Quiet, OwesClear, Granted, InBlock, OwesAck, OwesNak, MayAnswer, answers, is_same, number_of, takes}
-use Rattle.a429_link.specs.Trace.{sink_at_first, sink_after}
-use Rattle.a429_link.proofs.ImpliedFacts.{implied_push, implied_sink}
+use Rattle.a429_link.proofs.ImpliedFacts.{implied_push, observer_again}
 use Rattle.a429_link.proofs.NumberFacts.{number_from}
-use Rattle.a429_link.proofs.TraceFiles.{observed_sink}
 use Rattle.a429_record.specs.declared.entry.Entry.{Entry}
+use Rattle.a429_link.proofs.Contradictions.{same_number}
 use Rattle.a429_cert.specs.Explained.{items_of, seen_of}
 use Rattle.a429_explain.specs.Decoded.{HeardValue}
 use Rattle.a429_explain.specs.declared.verdict.Reason.{Reason}
@@ -43,11 +42,6 @@ use Rattle.a429_contradiction.proofs.ContradictionFacts.{Witnesses, heard_other,
 
 abbrev on : Bus → ℕ → Seen
 on b w = record { bus = b; word = w }
-
-same_number : (m n : UnitNumber) → is_number m n ≡ true → m ≡ n
-same_number m n e =
-    let both = and_parts (eqb m.file n.file) (eqb m.ldu n.ldu) e in
-    number_from m n (eqb-true m.file n.file both.0) (eqb-true m.ldu n.ldu both.1)
 
 same_last : (l : Option Number) (n : UnitNumber) → is_same l n ≡ true → last_number l ≡ Some n
 same_last None n e = absurd (cc e)
@@ -113,19 +107,6 @@ acked_form p items n bus.B w (Some (Eot f c)) o q a at is e h = acked_same p ite
 acked_form p items n bus.A w x o q a at is e h = acked_same p items a o q e h
 
 -- ---- what the words so far have shown
-
--- what is implied has the observer of the same words
-observer_again : (p : Contents) (items : List Seen) → observer_of (implied p items implied_at_first) ≡ observed p items at_first
-observer_again p items =
-    let o = observed p items at_first in
-    let k = sink_after p items sink_at_first in
-    let last : k.last ≡ o.last = sym (ap (λ (s : Sink). s.last) (observed_sink p items)) in
-    let count : k.count ≡ o.count = sym (ap (λ (s : Sink). s.count) (observed_sink p items)) in
-    let phase : k.phase ≡ o.phase = sym (ap (λ (s : Sink). s.phase) (observed_sink p items)) in
-    ap observer_of (implied_sink p items)
-    ∙ ap (λ (l : Option Number). record { last = l; count = k.count; phase = k.phase; begun = o.begun; parts = o.parts }) last
-    ∙ ap (λ (n : ℕ). record { last = o.last; count = n; phase = k.phase; begun = o.begun; parts = o.parts }) count
-    ∙ ap (λ (f : SinkPhase). record { last = o.last; count = o.count; phase = f; begun = o.begun; parts = o.parts }) phase
 
 -- after the first n words
 pub record Watches (p : Contents) (items : List Seen) (n : ℕ) (o : Observer) (s : SoFar) (parts : List ℕ) (k : Implied)
@@ -197,17 +178,13 @@ heard_holds p k o s before b w x (against.OtherWord n v z e) = other _ _ _ _ (he
     other : (P Q R S : Type 0) {T U : Type 0} → T ≡ U → (P × Q × R × S × T) ≡ (P × Q × R × S × U)
     other P Q R S e = ap (λ (T : Type 0). P × Q × R × S × T) e
 
-pub take_all : (items : List Seen) → take (length items) items ≡ items
-take_all [] = refl
-take_all (i ∷ items) = ap (λ (z : List Seen). i ∷ z) (take_all items)
-
 -- after all words
 pub holds_after : (p : Contents) (items : List Seen) (o : Observer) (s : SoFar) (parts : List ℕ) (k : Implied) (c : Option Acked) (b : Bus)
     (w : ℕ) (x : Option Form) (a : Against) → Watches p items (length items) o s parts k c
     → HoldsForm p (known_by k o s) items b w x a
     → HoldsForm p (known_by (implied p items implied_at_first) (observed p items at_first) (so_far p items)) items b w x a
 holds_after p items o s parts k c b w x a is h =
-    let all = take_all items in
+    let all = take-length items in
     let sink : k ≡ implied p items implied_at_first = is.sink ∙ ap (λ (z : List Seen). implied p z implied_at_first) all in
     let observer : o ≡ observed p items at_first = is.known.observer ∙ ap (λ (z : List Seen). observed p z at_first) all in
     let same : unheard s ≡ unheard (so_far p items) = is.known.so_far ∙ ap (λ (z : List Seen). unheard (so_far p z)) all in
@@ -253,14 +230,6 @@ bad_by p k before w flags check (doing.InBlock f l a b) e = tt
 bad_by p k before w flags check (doing.OwesAck f l) e = tt
 bad_by p k before w flags check (doing.Accepts f l c) e = tt
 bad_by p k before w flags check (doing.Again f l) e = tt
-
--- ---- results
-
-pub each_some : {A E : Type 0} {P Q : A → Type 0} (r : Result (Option A) E) → ((a : A) → P a → Q a) → IfOk r (λ o. IfSome o P)
-    → IfOk r (λ o. IfSome o Q)
-each_some (Ok (Some a)) f h = f a h
-each_some (Ok None) f h = tt
-each_some (Err e) f h = tt
 
 -- ---- at an entry
 

@@ -21,9 +21,9 @@ use Rattle.a429_explain.specs.Decoded.{IsHeardAt}
 use Rattle.a429_explain.specs.Walk.{AreAllowedUpTo}
 use Rattle.a429_explain.specs.declared.verdict.Reason.{Reason}
 use Rattle.a429_explain.specs.declared.verdict.Reason.TheVariants.{NoForm, NotGranted, WrongAnswer, BadBlock, WrongNumber, OtherBlock, NoRun}
-use Rattle.a429_explain.proofs.WalkFacts.{observed_more}
 use Rattle.a429_link.proofs.AllData.{data-append}
 use Rattle.a429_link.proofs.Contradictions.{so_far_latest}
+use Rattle.a429_link.proofs.ObserverMore.{observed_more}
 use Rattle.a429_contradiction.specs.SoFar.{data_after, unheard}
 use Rattle.a429_contradiction.specs.Contradiction.{Contradicts, ContradictsAt, HasNoContradiction, HasNoneBefore}
 

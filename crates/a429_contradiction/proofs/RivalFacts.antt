@@ -1,6 +1,6 @@
 -- An attempt that another attempt is held against.
-use Rattle.std.proofs.Common.{◌≡◌, ◌⊎◌, ◌↔◌, not, IsTrue, ℕ, zero, suc, ◌+◌, ◌<◌, Bool, true, false, cond, eqb, eqb-true, List, [], ◌∷◌, ◌++◌, length, take, Option, Some, None, slice_get, refl, sym, ap, ◌∙◌, subst, inl, inr, append_assoc, append-nil, arith}
-use Rattle.std.proofs.lemmas.Bool.{and_parts, cases_order}
+use Rattle.std.proofs.Common.{◌≡◌, ◌⊎◌, ◌↔◌, not, IsTrue, ℕ, zero, suc, ◌+◌, ◌<◌, Bool, true, false, cond, List, [], ◌∷◌, ◌++◌, length, take, Option, Some, None, slice_get, refl, sym, ap, ◌∙◌, subst, inl, inr, append_assoc, append-nil, arith}
+use Rattle.std.proofs.lemmas.Bool.{cases_order}
 use Rattle.std.proofs.lemmas.Option.{slice_get_within}
 use Rattle.a429_word.specs.declared.bus.Bus.{Bus}
 use Rattle.a429_word.specs.declared.bus.Bus.TheVariants as bus
@@ -18,8 +18,7 @@ use Rattle.a429_link.specs.Number.{is_number}
 use Rattle.a429_link.specs.Run.{IsSubsequenceOf}
 use Rattle.a429_link.specs.WholeBlock.{data_words}
 use Rattle.a429_link.proofs.AllData.{data-append}
-use Rattle.a429_link.proofs.Contradictions.{latest_push}
-use Rattle.a429_link.proofs.NumberFacts.{number_from}
+use Rattle.a429_link.proofs.Contradictions.{latest_push, same_number, acks_push}
 use Rattle.a429_link.proofs.NumberKept.{sub_all}
 use Rattle.a429_link.proofs.Subsequence.{sub_length}
 use Rattle.a429_explain.specs.declared.decoded.DecodedWord.{DecodedWord}
@@ -100,11 +99,6 @@ pub record Keeps (p : Contents) (items : List Seen) (t : Attempts) : Type 0 wher
 
 -- ---- one item more
 
-acks_push : (p : Contents) (n : UnitNumber) (items : List Seen) (i : Seen)
-    → AcksOnly p n items → AcksForm n i.bus (form_of p.codes i.bus i.word) → AcksOnly p n (items ++ i ∷ [])
-acks_push p n [] i h k = (k, tt)
-acks_push p n (x ∷ items) i h k = (h.0, acks_push p n items i h.1 k)
-
 one_more : (p : Contents) (before since : List Seen) (a : Asked) (i : Seen) → IsOne p before since a → IsOne p before (since ++ i ∷ []) a
 one_more p before since a i h = record {
   xs = h.xs;
@@ -171,11 +165,6 @@ if_keep p items (Some n) kept a e f h = since_keep p n items kept a e f h
 
 abbrev on : Bus → ℕ → Seen
 on b w = record { bus = b; word = w }
-
-same_number : (m n : UnitNumber) → is_number m n ≡ true → m ≡ n
-same_number m n e =
-    let both = and_parts (eqb m.file n.file) (eqb m.ldu n.ldu) e in
-    number_from m n (eqb-true m.file n.file both.0) (eqb-true m.ldu n.ldu both.1)
 
 begins_more : (p : Contents) (n : UnitNumber) (words : List ℕ) (w : ℕ) → BeginsUnder p n words → BeginsUnder p n (words ++ w ∷ [])
 begins_more p n [] w h = absurd h

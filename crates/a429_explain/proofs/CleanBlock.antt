@@ -20,6 +20,7 @@ use Rattle.a429_link.specs.declared.seen.Seen.{Seen}
 use Rattle.a429_link.specs.Clean.{clean_block}
 use Rattle.a429_link.specs.Carry.{on_a, on_b}
 use Rattle.a429_link.specs.declared.number.UnitNumber.{UnitNumber}
+use Rattle.a429_link.proofs.SourceBlock.{block_length}
 use Rattle.a429_explain.specs.Matching.{is_word, passed_with, passing_as, passed_after}
 use Rattle.a429_explain.specs.Whole.{ends_with, Recorded, nothing_yet, gathered_with, is_whole, unit_made, ended_by, first_whole, wanted, is_other, other_request}
 use Rattle.a429_explain.proofs.AttemptsFacts.{IsOfBlock}
@@ -220,9 +221,6 @@ of_block_passes (Some (Part s)) m k h = refl
 of_block_passes (Some (Eot f q)) m k h = refl
 of_block_passes _ m k h = absurd h
 
-length_block : (c : Codes) (u : LduValue) (place : UnitNumber) → length (block_of c u place.file place.ldu) ≡ count_of u
-length_block c u place = let long = length-append u.words (word_number c (Eot u.flags u.check) ∷ []) in omega (arith, long)
-
 -- the acknowledgement passes nothing
 passed_ack : (c : Codes) (u : LduValue) (place : UnitNumber) (ack : Seen) (file ldu k : ℕ)
     → form_of c ack.bus ack.word ≡ Some (Ack file ldu) → passed_after c u place (ack ∷ []) (Some k) ≡ Some k
@@ -234,9 +232,9 @@ passed_words : (c : Codes) (u : LduValue) (place : UnitNumber) (ack : Seen) (fil
     → AreOfBlock c ps → (k : ℕ) → k ≡ length qs → passed_after c u place (map on_a ps ++ ack ∷ []) (Some k) ≡ Some (count_of u)
 passed_words c u place ack file ldu l a qs [] e h k ek =
     let same : qs ≡ block_of c u place.file place.ldu = sym (append-nil qs) ∙ e in
-    passed_ack c u place ack file ldu k a ∙ ap Some (ek ∙ ap length same ∙ length_block c u place)
+    passed_ack c u place ack file ldu k a ∙ ap Some (ek ∙ ap length same ∙ block_length c u place)
 passed_words c u place ack file ldu l a qs (w ∷ ps) e h k ek =
-    let long : length (qs ++ w ∷ ps) ≡ count_of u = ap length e ∙ length_block c u place in
+    let long : length (qs ++ w ∷ ps) ≡ count_of u = ap length e ∙ block_length c u place in
     let room : k < count_of u = omega (arith, long, length-append qs (w ∷ ps)) in
     let found : is_word c u place w k ≡ true = ap (is_word c u place w) ek ∙ here c u place qs w ps l e in
     let step : passing_as (form_of c bus.A w) (passed_with (is_word c u place w) k (count_of u - k)) k ≡ Some (suc k) =

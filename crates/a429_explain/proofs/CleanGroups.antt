@@ -2,6 +2,7 @@
 use Rattle.std.proofs.Common.{◌≡◌, ℕ, zero, suc, ◌+◌, ◌-◌, ◌%◌, ◌≤◌, Bool, true, false, cond, not, List, [], ◌∷◌, ◌++◌, map, take, drop, slice_get, Option, Some, None, refl, sym, ap, ◌∙◌, subst, arith, append_assoc, eq-eqb, min}
 use Rattle.std.proofs.lemmas.Bool.{ne_eqb}
 use Rattle.a429_word.specs.declared.bus.Bus.TheVariants as bus
+use Rattle.a429_word.proofs.ListFacts.{no_middle}
 use Rattle.a429_profile.specs.declared.codes.Codes.{Codes}
 use Rattle.a429_profile.specs.Profile.{Contents, IsProfile}
 use Rattle.a429_profile.proofs.ProfileRanges.{in_range}
@@ -9,6 +10,7 @@ use Rattle.a429_ldu.specs.declared.forms.Form.{Form}
 use Rattle.a429_ldu.specs.declared.forms.Form.TheVariants.{Rts, Cts, Ack, Nak, Sot, Part, Eot}
 use Rattle.a429_ldu.specs.Form.{form_of, is_free, word_number}
 use Rattle.a429_ldu.specs.Ldu.{LduValue, IsLdu, count_of, block_of}
+use Rattle.a429_ldu.proofs.FormFree.{free_none}
 use Rattle.a429_link.specs.declared.seen.Seen.{Seen}
 use Rattle.a429_link.specs.Clean.{clean_block, clean_blocks, AllFit, without_free}
 use Rattle.a429_link.specs.Carry.{on_a, on_b}
@@ -21,7 +23,6 @@ use Rattle.a429_explain.specs.Attempts.{attempt_start, next_start, are_numbers, 
 use Rattle.a429_explain.specs.Decoded.{forms_of}
 use Rattle.a429_explain.specs.Groups.{words_in, group_length, first_started, ends_its_group}
 use Rattle.a429_explain.specs.Guess.{first_file_of, file_of}
-use Rattle.a429_explain.proofs.WalkFacts.{free_none}
 use Rattle.a429_explain.proofs.Thinned.{attempt_start-thin, next_start-thin}
 use Rattle.a429_explain.proofs.CleanBlock.{HasForms, AreOfBlock, has_forms, block_has_forms}
 use Rattle.a429_link.specs.Number.{first_number, next_number, number_after}
@@ -128,14 +129,10 @@ parts_last c start i items file ldu e a n =
       settled = ap (λ (r : Role). ends_its_group (Some r)) role;
     })
 
-no_word : (b : List Seen) (ack : Seen) (rest : List Seen) → [] ≡ b ++ ack ∷ rest → ⊥
-no_word [] ack rest e = cc e
-no_word (x ∷ b) ack rest e = cc e
-
 pub group_parts : (c : Codes) (start : Option StartNumbers) (file ldu : ℕ) (ack : Seen) (rest : List Seen)
     → form_of c ack.bus ack.word ≡ Some (Ack file ldu) → are_numbers (next_start (forms_of c rest)) file ldu ≡ false → (items b : List Seen)
     → AreInner c b → without_free c items ≡ b ++ ack ∷ rest → Parts c items (b ++ ack ∷ []) rest (words_to_go c start items)
-group_parts c start file ldu ack rest a n [] b h e = absurd (no_word b ack rest e)
+group_parts c start file ldu ack rest a n [] b h e = absurd (no_middle b ack rest e)
 group_parts c start file ldu ack rest a n (i ∷ items) b h e =
     by (is_free c i.bus i.word) refl e (group_parts c start file ldu ack rest a n items)
   where

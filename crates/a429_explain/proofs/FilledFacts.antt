@@ -1,5 +1,5 @@
 -- What is recorded of a group that was never recorded whole, one word after the other, and what is added to it.
-use Rattle.std.proofs.Common.{◌≡◌, ℕ, suc, ◌+◌, ◌-◌, ◌*◌, ◌%◌, ◌≤◌, ◌<◌, Bool, true, false, cond, not, ◌||◌, ◌==◌, List, [], ◌∷◌, ◌++◌, length, slice_range, Option, Some, None, IfSome, IsSome, is_some, option_map, option_and_then, refl, sym, ap, ◌∙◌, subst, arith, append_assoc, length-append}
+use Rattle.std.proofs.Common.{◌≡◌, ℕ, suc, ◌+◌, ◌-◌, ◌*◌, ◌%◌, ◌≤◌, ◌<◌, Bool, true, false, cond, not, ◌||◌, ◌==◌, List, [], ◌∷◌, ◌++◌, length, slice_range, Option, Some, None, IfSome, IsSome, is_some, option_and_then, refl, sym, ap, ◌∙◌, subst, arith, append_assoc, length-append}
 use Rattle.std.specs.Option.{unwrap_or}
 use Rattle.a429_word.specs.declared.bus.Bus.{Bus}
 use Rattle.a429_word.specs.declared.bus.Bus.TheVariants as bus
@@ -12,6 +12,7 @@ use Rattle.a429_ldu.specs.Carried.{semis_in, joined_to, semis_of_words, paired, 
 use Rattle.a429_ldu.specs.CheckWord.{check_of}
 use Rattle.a429_ldu.proofs.FormFacts.{form_of-is}
 use Rattle.a429_link.specs.declared.seen.Seen.{Seen}
+use Rattle.a429_link.proofs.TraceReasons.{mapped_some_too, pairs_even}
 use Rattle.a429_explain.specs.declared.decoded.DecodedWord.{DecodedWord}
 use Rattle.a429_explain.specs.Decoded.{IsHeardAt}
 use Rattle.a429_explain.specs.Filled.{is_end, has_end, gfi_of, first_gfi, Last, last_with, last_data, zeros, fillers, are_odd, none_yet, filled_up, unit_filled, filled}
@@ -120,26 +121,14 @@ pub data_heard : (p : Contents) → IsProfile p → (items : List Seen) (n : ℕ
 data_heard p is items n w r s k g h =
     data_kept p is k.item.bus w.word w.form r s (sym (subst (λ (v : ℕ). form_of p.codes k.item.bus v ≡ w.form) k.word_is k.form_is)) g h
 
-is_some_map : (n : ℕ) (o : Option (List ℕ)) → is_some (option_map (λ bytes. n ∷ bytes) o) ≡ is_some o
-is_some_map n None = refl
-is_some_map n (Some bytes) = refl
-
 two_more : (n : ℕ) → suc (suc n) % 2 ≡ n % 2
 two_more n = omega arith
-
-paired_even : (xs : List ℕ) → is_some (paired xs) ≡ not (length xs % 2 == 1)
-paired_even [] = refl
-paired_even (x ∷ []) = refl
-paired_even (x ∷ y ∷ xs) = is_some_map (x + 16 * y) (paired xs) ∙ paired_even xs ∙ ap (λ (n : ℕ). not (n == 1)) (sym (two_more (length xs)))
-
-if_some_map : (n : ℕ) (o : Option (List ℕ)) → is_some (if_some (option_map (λ bytes. n ∷ bytes) o)) ≡ is_some o
-if_some_map n None = refl
-if_some_map n (Some bytes) = refl
 
 some_even : (xs : List ℕ) → 1 ≤ length xs → is_some (if_some (paired xs)) ≡ not (length xs % 2 == 1)
 some_even [] l = absurd (omega arith)
 some_even (x ∷ []) l = refl
-some_even (x ∷ y ∷ xs) l = if_some_map (x + 16 * y) (paired xs) ∙ paired_even xs ∙ ap (λ (n : ℕ). not (n == 1)) (sym (two_more (length xs)))
+some_even (x ∷ y ∷ xs) l =
+    mapped_some_too (paired xs) (x + 16 * y) ∙ pairs_even xs ∙ ap (λ (n : ℕ). not (n == 1)) (sym (two_more (length xs)))
 
 -- a data word has a semi-octet
 has_semi : (x : Option Form) (o : Option (List ℕ))

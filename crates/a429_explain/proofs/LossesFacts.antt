@@ -2,6 +2,7 @@
 use Rattle.std.proofs.Common.{◌≡◌, ◌<◌, ◌≤◌, ◌+◌, ◌-◌, ℕ, zero, suc, Bool, List, [], ◌∷◌, ◌++◌, None, refl, sym, ap, ◌∙◌, subst, arith, append_assoc}
 use Rattle.std.specs.Fmt.{decimal}
 use Rattle.std.specs.List.{AllByRecursion}
+use Rattle.std.proofs.Math.Bool.{or-false}
 use Rattle.a429_profile.specs.Profile.{Contents}
 use Rattle.a429_ldu.specs.Ldu.{LduValue, count_of}
 use Rattle.a429_link.specs.declared.seen.Seen.{Seen}
@@ -16,6 +17,7 @@ use Rattle.a429_link.specs.Run.{IsBounded, SentFew}
 use Rattle.a429_link.specs.State.{State, states_of}
 use Rattle.a429_link.specs.Step.{after}
 use Rattle.a429_link.proofs.LossesFacts.{in_phase, SendsWord, can_lose, lost_inside, lost_last, sends_next, sends_word}
+use Rattle.a429_link.proofs.CleanRuns.{end_append}
 use Rattle.a429_cert.specs.declared.act.Act.TheVariants as act
 use Rattle.a429_cert.specs.declared.line.CertLine.TheVariants.{Moved}
 use Rattle.a429_cert.specs.Field.{field}
@@ -25,7 +27,7 @@ use Rattle.a429_explain.specs.declared.scribe.Scribe.{Scribe}
 use Rattle.a429_explain.specs.Next.{lost}
 use Rattle.a429_explain.specs.Note.{line_after, lost_head, rest_lines}
 use Rattle.a429_explain.specs.Scribe.{HasWritten, WritesNext, link_after, IsClosing, ClosesOn}
-use Rattle.a429_explain.proofs.ScribeFacts.{written_on, line_at, line_is, or-false, end_both}
+use Rattle.a429_explain.proofs.ScribeFacts.{written_on, line_at, line_is}
 
 -- ---- their text
 
@@ -152,5 +154,5 @@ closes_with_rest l m n made = λ k c. record {
   steps = c.steps ++ losses n;
   closing = all_closing c.steps n c.closing;
   leads = made ∙ ap (link_after (losses n)) c.leads
-      ∙ ap (λ (s : State). record k { state = s }) (sym (end_both k.profile c.steps (losses n) k.state));
+      ∙ ap (λ (s : State). record k { state = s }) (sym (end_append k.profile c.steps (losses n) k.state));
 }

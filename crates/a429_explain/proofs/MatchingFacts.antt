@@ -37,10 +37,6 @@ get_item [] n d = refl
 get_item (e ∷ es) zero d = refl
 get_item (e ∷ es) (suc n) d = get_item es n d
 
-pub length-items_of : (es : List Entry) → length (items_of es) ≡ length es
-length-items_of [] = refl
-length-items_of (e ∷ es) = ap suc (length-items_of es)
-
 range_push : (xs : List Seen) (a n : ℕ) (d : Seen)
     → a ≤ n → n < length xs → slice_range xs a (n + 1) ≡ slice_range xs a n ++ get_or xs n d ∷ []
 range_push xs a n d m l =

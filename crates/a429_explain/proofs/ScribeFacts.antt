@@ -1,7 +1,7 @@
 -- What the scribe has written: its text is one of lines, and each line lists a step of a run.
-use Rattle.std.proofs.Common.{◌≡◌, ◌≢◌, ℕ, zero, suc, ◌≤◌, ◌<◌, ◌==◌, length, Bool, true, false, ◌||◌, List, [], ◌∷◌, ◌++◌, map, take, slice_get, Option, Some, None, Result, Ok, Err, OnOk, IfErr, refl, sym, ap, ◌∙◌, subst, arith, append_assoc, append-nil}
+use Rattle.std.proofs.Common.{◌≡◌, ◌≢◌, ℕ, zero, suc, ◌≤◌, ◌<◌, length, Bool, false, ◌||◌, List, [], ◌∷◌, ◌++◌, map, take, slice_get, Option, Some, None, Result, Ok, Err, OnOk, IfErr, refl, sym, ap, ◌∙◌, subst, arith, append_assoc, append-nil}
 use Rattle.std.specs.List.{AllByRecursion}
-use Rattle.std.proofs.lemmas.Bool.{ne_eqb}
+use Rattle.std.proofs.Math.Bool.{or-false, or_assoc}
 use Rattle.a429_profile.specs.Profile.{Contents}
 use Rattle.a429_ldu.specs.Ldu.{LduValue, IsLdu}
 use Rattle.a429_link.specs.declared.seen.Seen.{Seen}
@@ -22,7 +22,7 @@ use Rattle.a429_link.specs.declared.carry.NextWord.{NextWord}
 use Rattle.a429_link.specs.Carry.{on_a}
 use Rattle.a429_link.proofs.CarryFacts.{can_send, can_take}
 use Rattle.a429_link.proofs.LinkKept.{end_push}
-use Rattle.a429_link.proofs.CleanRuns.{run_split}
+use Rattle.a429_link.proofs.CleanRuns.{run_split, end_append}
 use Rattle.a429_cert.specs.declared.act.Act.{Act}
 use Rattle.a429_cert.specs.declared.act.Act.TheVariants as act
 use Rattle.a429_cert.specs.declared.line.CertLine.{CertLine}
@@ -32,10 +32,10 @@ use Rattle.a429_cert.specs.States.{IsSink, IsSource}
 use Rattle.a429_cert.specs.declared.version.Version.{Version}
 use Rattle.a429_cert.specs.declared.version.Version.TheVariants.{One, Two}
 use Rattle.a429_cert.specs.Version.{version_line, is_give_up, gives_up, least_version}
-use Rattle.a429_cert.specs.Lines.{certificate_lines, begun_with}
+use Rattle.a429_cert.specs.Lines.{certificate_lines}
 use Rattle.a429_cert.specs.Likely.{sent_line, taken_line}
 use Rattle.a429_cert.specs.BlockText.{word_lines}
-use Rattle.a429_cert.proofs.LikelyFacts.{sent_spells, taken_spells}
+use Rattle.a429_cert.proofs.LikelyFacts.{sent_spells, taken_spells, ends_there}
 use Rattle.a429_cert.proofs.PairFacts.{least_place, sent_shows, taken_shows}
 use Rattle.a429_cert.proofs.VersionFacts.{least_lists}
 use Rattle.a429_explain.specs.Explanation.{HasLeastVersion, IsRefusedAt, IsWhyNotWritten}
@@ -56,13 +56,6 @@ use Rattle.a429_explain.specs.Scribe.{OnlyLacksMemory, CannotWrite, IsLossless, 
 
 -- ---- the lines of a text
 
-line_feed : (line rest : List ℕ)
-    → AllByRecursion IsVisible line → certificate_lines (line ++ 10 ∷ rest) ≡ Some line ∷ certificate_lines rest
-line_feed [] rest h = refl
-line_feed (b ∷ line) rest h =
-    let other : (b == 10) ≡ false = ne_eqb b 10 (λ e. let least = h.0.0 in omega (arith, least, e)) in
-    rw other (ap (begun_with b) (line_feed line rest h.1))
-
 abbrev AreVisible : List (List ℕ) → Type 0
 AreVisible [] = Unit {0}
 AreVisible (line ∷ lines) = AllByRecursion IsVisible line × AreVisible lines
@@ -79,7 +72,7 @@ ended_text (line ∷ lines) = line ++ 10 ∷ ended_text lines
 lines_of_text : (lines : List (List ℕ)) → AreVisible lines → certificate_lines (ended_text lines) ≡ ended lines
 lines_of_text [] h = refl
 lines_of_text (line ∷ lines) h =
-    line_feed line (ended_text lines) h.0 ∙ ap (λ (l : List (Option (List ℕ))). Some line ∷ l) (lines_of_text lines h.1)
+    ends_there line (ended_text lines) h.0 ∙ ap (λ (l : List (Option (List ℕ))). Some line ∷ l) (lines_of_text lines h.1)
 
 -- the same text, where each has one before it but the first
 all_ended : (line : List ℕ) (lines : List (List ℕ)) → line ++ (lines_text lines ++ 10 ∷ []) ≡ ended_text (line ∷ lines)
@@ -133,18 +126,10 @@ with_trace a items = by (label a)
     by None = append-nil items
     by (Some i) = refl
 
-pub or-false : (b : Bool) → (b || false) ≡ b
-or-false true = refl
-or-false false = refl
-
-or-assoc : (a b c : Bool) → (a || (b || c)) ≡ ((a || b) || c)
-or-assoc true b c = refl
-or-assoc false b c = refl
-
 gives_up-push : (steps : List Step) (a : Step) → gives_up (steps ++ a ∷ []) ≡ (gives_up steps || is_give_up a)
 gives_up-push [] a = or-false (is_give_up a)
 gives_up-push (b ∷ steps) a =
-    ap (λ (t : Bool). is_give_up b || t) (gives_up-push steps a) ∙ or-assoc (is_give_up b) (gives_up steps) (is_give_up a)
+    ap (λ (t : Bool). is_give_up b || t) (gives_up-push steps a) ∙ sym (or_assoc (is_give_up b) (gives_up steps) (is_give_up a))
 
 -- one more line
 pub written_on : (items : List Seen) (first : ℕ) (text more : List ℕ) (gave gives : Bool) (l m : LinkValue) (a : Step) (line : CertLine)
@@ -363,10 +348,6 @@ sink_stays : (p : Contents) (n : ℕ) (u : LduValue) (s : State) → (end_of p (
 sink_stays p zero u s = refl
 sink_stays p (suc n) u s = sink_stays p n u (after p step.GiveUp s)
 
-pub end_both : (p : Contents) (xs ys : List Step) (s : State) → end_of p (xs ++ ys) s ≡ end_of p ys (end_of p xs s)
-end_both p [] ys s = refl
-end_both p (x ∷ xs) ys s = end_both p xs ys (after p x s)
-
 -- a plan can be carried out where its steps can be made
 pub plan_can : (plan : Plan) (l : LinkValue) → CanMake (begin_steps (Some plan)) l
     → CanMake (giving_up plan.give_ups) l × Can l.profile (step.Load plan.unit) (link_after (giving_up plan.give_ups) l).state
@@ -377,7 +358,7 @@ plan_can plan l can =
 pub plan_made : (plan : Plan) (l : LinkValue)
     → link_after (step.Load plan.unit ∷ []) (link_after (giving_up plan.give_ups) l) ≡ link_after (begin_steps (Some plan)) l
 plan_made plan l =
-    ap (λ (s : State). record l { state = s }) (sym (end_both l.profile (giving_up plan.give_ups) (step.Load plan.unit ∷ []) l.state))
+    ap (λ (s : State). record l { state = s }) (sym (end_append l.profile (giving_up plan.give_ups) (step.Load plan.unit ∷ []) l.state))
 
 -- ---- a request that nothing is lost before
 
@@ -406,7 +387,7 @@ asks_parts r n start i plan l e h run =
           );
           can = parts.0;
           sends = parts.1;
-          leads = ap (λ (s : State). record l { state = s }) (end_both l.profile begin (sent i) l.state);
+          leads = ap (λ (s : State). record l { state = s }) (end_append l.profile begin (sent i) l.state);
         }
 
 -- ---- a request, whatever was lost before it
@@ -425,7 +406,7 @@ closes_on (Ok x) l m a made h = λ k c. record {
   steps = c.steps ++ a ∷ [];
   closing = all_push c.steps a c.closing h;
   leads = made ∙ ap (link_after (a ∷ [])) c.leads
-      ∙ ap (λ (s : State). record k { state = s }) (sym (end_both k.profile c.steps (a ∷ []) k.state));
+      ∙ ap (λ (s : State). record k { state = s }) (sym (end_append k.profile c.steps (a ∷ []) k.state));
 }
 
 pub has_asked : {X E : Type 0} (r : Result X E) (role : Role) (n : ℕ) (start : Option StartNumbers) (i : Seen) (plan : Option Plan)
@@ -439,7 +420,7 @@ has_asked (Ok x) role n start i plan l closed begun m is closes b h =
       closed,
       closes,
       h ∙ ap (link_after (sent i)) b
-          ∙ ap (λ (s : State). record closed { state = s }) (sym (end_both closed.profile begin (sent i) closed.state)),
+          ∙ ap (λ (s : State). record closed { state = s }) (sym (end_append closed.profile begin (sent i) closed.state)),
     )
 
 pub on_ok : {X E : Type 0} {A B : Type 0} (r : Result X E) → OnOk r A → (A → B) → OnOk r B

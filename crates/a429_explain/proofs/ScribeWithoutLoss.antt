@@ -21,6 +21,7 @@ use Rattle.a429_link.specs.State.{start, rest}
 use Rattle.a429_link.proofs.CleanOffers.{clean_is_run}
 use Rattle.a429_link.proofs.CleanRuns.{run_split}
 use Rattle.a429_record.specs.declared.entry.Entry.{Entry}
+use Rattle.a429_ldu.proofs.FormFree.{free_none}
 use Rattle.a429_cert.specs.Explained.{seen_of, items_of}
 use Rattle.a429_link.specs.declared.number.UnitNumber.{UnitNumber}
 use Rattle.a429_explain.specs.declared.attempts.StartNumbers.{StartNumbers}
@@ -36,11 +37,11 @@ use Rattle.a429_explain.specs.Scribe.{IsLossless, lossless_steps, link_after}
 use Rattle.a429_explain.proofs.CleanBlock.{AreOfBlock, block_has_forms, formed_sight}
 use Rattle.a429_explain.proofs.PlainPlans.{IsOther, other_wants, plain_asked, plain_past}
 use Rattle.a429_explain.proofs.CleanGroups.{unit_has_forms, next_start_other, attempt_start_is, start_numbers}
-use Rattle.a429_explain.proofs.MatchingFacts.{get_item, length-items_of}
+use Rattle.a429_explain.proofs.MatchingFacts.{get_item}
 use Rattle.a429_explain.proofs.Thinned.{attempt_start-thin, next_start-thin}
-use Rattle.a429_explain.proofs.WalkFacts.{free_none}
 use Rattle.a429_link.specs.Number.{first_number, number_after}
 use Rattle.a429_link.proofs.NumberFacts.{next_byte}
+use Rattle.a429_cert.proofs.ItemsFacts.{length-items_of}
 use Rattle.a429_explain.proofs.AttemptsFacts.{IsOfBlock}
 
 -- ---- roles, free words left out

@@ -10,6 +10,7 @@ use Rattle.a429_ldu.specs.declared.sight.Sight.TheVariants as sight
 use Rattle.a429_ldu.specs.Form.{form_of, is_free}
 use Rattle.a429_ldu.specs.Sight.{sight_of, sight_in}
 use Rattle.a429_ldu.specs.Ldu.{LduValue, count_of}
+use Rattle.a429_ldu.proofs.FormFree.{free_none}
 use Rattle.a429_link.specs.declared.seen.Seen.{Seen}
 use Rattle.a429_link.specs.Clean.{without_free}
 use Rattle.a429_link.specs.declared.number.UnitNumber.{UnitNumber}
@@ -17,7 +18,6 @@ use Rattle.a429_explain.specs.Attempts.{attempt_start, next_start}
 use Rattle.a429_explain.specs.Decoded.{forms_of}
 use Rattle.a429_explain.specs.Matching.{is_word, passed_with, passing_as, passed_after}
 use Rattle.a429_explain.specs.Whole.{Recorded, gathered_with, ended_by, first_whole, wanted, is_other, other_request}
-use Rattle.a429_explain.proofs.WalkFacts.{free_none}
 
 -- ---- the first whole attempt
 

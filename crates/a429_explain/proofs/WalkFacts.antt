@@ -17,6 +17,8 @@ use Rattle.a429_link.specs.Run.{BeginsARun}
 use Rattle.a429_link.specs.declared.seen.Seen.{Seen}
 use Rattle.a429_link.proofs.ObserverSight.{allows_sight}
 use Rattle.a429_record.specs.declared.entry.Entry.{Entry}
+use Rattle.a429_ldu.proofs.FormFree.{free_none}
+use Rattle.a429_link.proofs.ObserverMore.{observed_more}
 use Rattle.a429_cert.specs.Explained.{seen_of, items_of}
 use Rattle.a429_explain.specs.declared.verdict.Reason.{Reason}
 use Rattle.a429_explain.specs.Verdict.{HasNoForm}
@@ -36,13 +38,6 @@ item_at es n e i l is same = by es n l ∙ ap (λ (x : Seen). Some x) (ap seen_o
     by [] n l = absurd (omega arith)
     by (x ∷ es) zero l = refl
     by (x ∷ es) (suc n) l = by es n (omega arith)
-
--- what an observer has seen after one more word
-pub observed_more : (p : Contents) (items : List Seen) (n : ℕ) (i : Seen) (o : Observer)
-    → slice_get items n ≡ Some i → observed p (take (suc n) items) o ≡ sees p i (observed p (take n items) o)
-observed_more p [] n i o at = absurd (cc at)
-observed_more p (x ∷ items) zero i o at = ap (λ (j : Seen). sees p j o) (cc at)
-observed_more p (x ∷ items) (suc n) i o at = observed_more p items n i (sees p x o) at
 
 split : (k n : ℕ) → k < n + 1 → (k < n) ⊎ (k ≡ n)
 split k n m = elim (cases_order k n) [ inl e ↦ inr e | inr (inl l) ↦ inl l | inr (inr g) ↦ absurd (omega arith) ]
@@ -117,10 +112,6 @@ pub form_told : (s : Sight) → IsRefusable s → sight_in (form_in s) ≡ s
 form_told sight.Free h = absurd h
 form_told sight.NoForm h = refl
 form_told (sight.Form x) h = refl
-
--- a word that is free has no form
-pub free_none : (c : Codes) (b : Bus) (w : ℕ) → is_free c b w ≡ true → form_of c b w ≡ None
-free_none c b w e = rw e refl
 
 -- where each word is allowed, each that is not free has a form
 formed_from : (p : Contents) (items : List Seen) (o : Observer)

@@ -1,6 +1,6 @@
 -- Searches through the words of a group, one word after the other.
 use Rattle.std.proofs.Common.{◌≡◌, ◌≢◌, ℕ, zero, suc, ◌+◌, ◌-◌, ◌≤◌, ◌<◌, Bool, true, false, cond, not, ◌&&◌, List, [], ◌∷◌, length, take, drop, get_or, slice_get, slice_range, Option, Some, None, is_some, refl, sym, ap, ◌∙◌, subst, arith, eq-eqb}
-use Rattle.std.proofs.lemmas.Bool.{ne_eqb}
+use Rattle.std.proofs.lemmas.Bool.{ne_eqb, and_right}
 use Rattle.std.proofs.lemmas.List.{drop_more}
 use Rattle.std.proofs.lemmas.Option.{slice_get_within, get_or_from_slice_get}
 use Rattle.std.specs.Option.{option_or}
@@ -103,22 +103,18 @@ unit_is_made p is count start gfi flags check words u s e h n =
     ap (λ (x : LduValue). Some x) e ∙ sym (made_of p is count v (subst (IsLdu p) e h) n)
     ∙ ap (λ (o : Option ℕ). unit_made p count (ends_with o flags check) words) (sym s)
 
-and_false : (a b : Bool) → b ≡ false → (a && b) ≡ false
-and_false true b e = e
-and_false false b e = refl
-
 not_whole : (p : Contents) → IsProfile p → (count : ℕ) (words : List ℕ) (check : ℕ) (f : LduFault) → count ≤ 255 → length words + 2 ≡ count
     → IsFirstLduFault p check words f → is_whole p count words check ≡ false
-not_whole p is count [] check Count l n h = and_false _ _ refl
+not_whole p is count [] check Count l n h = and_right _ _ refl
 not_whole p is count (w ∷ ws) check Count l n h = absurd (h (omega arith, omega arith))
-not_whole p is count words check NotBytes l n h = and_false _ _ (by (bytes_carried p.codes words) refl)
+not_whole p is count words check NotBytes l n h = and_right _ _ (by (bytes_carried p.codes words) refl)
   where
     by : (o : Option (List ℕ)) → bytes_carried p.codes words ≡ o → (is_some o && agrees p.check (bytes_in p.codes words) check) ≡ false
     by None e = refl
     by (Some bytes) e = absurd (h.1 bytes (carries_of p is words bytes e))
 not_whole p is count words check CheckWrong l n h =
     let carried = carried_of p is words h.1 h.2 in
-    rw carried (rw h.3 (rw (ne_eqb _ _ h.4) (and_false _ _ refl)))
+    rw carried (rw h.3 (rw (ne_eqb _ _ h.4) (and_right _ _ refl)))
 not_whole p is count words check OutOfMemory l n h = absurd h
 
 pub unit_not_made : (p : Contents)

@@ -31,7 +31,7 @@ use Rattle.a429_link.proofs.NumberFacts.{next_byte}
 use Rattle.a429_explain.proofs.AttemptsFacts.{IsOfBlock}
 
 -- none of some files is refused: the first is not, and none of the others
-kept : (k : ℕ) (o : Option CutFault) (later : Option CleanFault) → refused_or k o later ≡ None → (o ≡ None) × (later ≡ None)
+pub kept : (k : ℕ) (o : Option CutFault) (later : Option CleanFault) → refused_or k o later ≡ None → (o ≡ None) × (later ≡ None)
 kept k None later e = (refl, e)
 kept k (Some f) later e = absurd (cc e)
 

@@ -1,4 +1,5 @@
 use Rattle.std.proofs.Common.{◌≡◌, Bool, Ok, Option, length, ap, subst, refl, arith}
+use Rattle.a429_word.proofs.Outcomes.{each_some}
 use Rattle.a429_profile.specs.Profile.{Contents}
 use Rattle.a429_ldu.specs.declared.forms.Form.{Form}
 use Rattle.a429_ldu.specs.Form.{form_of}
@@ -9,7 +10,7 @@ use Rattle.a429_explain.specs.declared.verdict.Reason.{Reason}
 use Rattle.a429_contradiction.specs.Against.{AllowsIfForm, HoldsForm, acked_after, known_by}
 use Rattle.a429_contradiction.specs.Contradiction.{Contradicts}
 use Rattle.a429_contradiction.specs.SoFar.{data_after, unheard}
-use Rattle.a429_contradiction.proofs.AgainstFacts.{Watches, each_some, holds_after, watches_more}
+use Rattle.a429_contradiction.proofs.AgainstFacts.{Watches, holds_after, watches_more}
 use Rattle.a429_contradiction.proofs.ContradictionFacts.{allowed_at, witnesses_more}
 use Rattle.a429_contradiction.proofs.against.held_after.Goals as goal
 

@@ -1,6 +1,7 @@
 use Rattle.std.proofs.Common.{◌≡◌, List, length, take, subst, arith}
+use Rattle.std.proofs.Math.Seq.{take-length}
+use Rattle.a429_word.proofs.Outcomes.{each_some}
 use Rattle.a429_link.specs.declared.seen.Seen.{Seen}
-use Rattle.a429_contradiction.proofs.AgainstFacts.{each_some, take_all}
 use Rattle.a429_profile.specs.Profile.{Contents}
 use Rattle.a429_contradiction.specs.Rival.{IsRival}
 use Rattle.a429_contradiction.proofs.RivalFacts.{Keeps, keeps_first, keeps_next, rival_at}
@@ -22,7 +23,7 @@ returns c =
     let end : c.loop-entry.entry ≡ length items =
     omega (arith, c.loop-entry-test.false, c.loop-entry.auto.entry-end, c.len-entry-end.ensures) in
     let first = subst (λ m. Keeps p (take m items) c.loop-entry.attempts) end c.loop-entry.invariant in
-    let all = subst (λ (l : List Seen). Keeps p l c.loop-entry.attempts) (take_all items) first in
+    let all = subst (λ (l : List Seen). Keeps p l c.loop-entry.attempts) (take-length items) first in
     each_some c.rival.result (λ r h.
     rival_at p items c.loop-entry.attempts r all (subst (λ (q : Contents). IsRival q.codes c.loop-entry.attempts r) c.profile.ensures.is h))
     c.rival.ensures

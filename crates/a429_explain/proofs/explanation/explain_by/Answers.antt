@@ -8,12 +8,12 @@ use Rattle.a429_link.specs.Link.{LinkValue}
 use Rattle.a429_link.specs.Run.{BeginsARun}
 use Rattle.a429_cert.specs.Explained.{items_of}
 use Rattle.a429_profile.specs.Profile.{Contents, IsProfile}
+use Rattle.a429_cert.proofs.ItemsFacts.{length-items_of}
 use Rattle.a429_explain.specs.declared.plan.Plan.{Plan}
 use Rattle.a429_explain.specs.Explanation.{IsExplanationOf, IsRefusedAt}
 use Rattle.a429_explain.specs.Guess.{decoded, IsOfCrossing}
 use Rattle.a429_explain.specs.Plan.{ArePlans, plan_for, plans_left}
 use Rattle.a429_explain.specs.Scribe.{Wrote}
-use Rattle.a429_explain.proofs.MatchingFacts.{length-items_of}
 use Rattle.a429_explain.proofs.PlanFacts.{plan_fits, left_fit, after_more}
 use Rattle.a429_explain.proofs.ScribeFacts.{run_begun, why_refused, refused_next}
 use Rattle.a429_explain.proofs.ScribeWithoutLoss.{OnPlan, Goes, entries_next, entry_next, goes_run, goes_lossless, plan_kept, plan_starts}

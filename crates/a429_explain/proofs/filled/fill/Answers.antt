@@ -1,4 +1,5 @@
-use Rattle.std.proofs.Common.{◌≡◌, ℕ, ◌+◌, ◌-◌, Some, ap, sym, ◌∙◌}
+use Rattle.std.proofs.Common.{◌+◌, ◌-◌, ap, sym, ◌∙◌}
+use Rattle.std.proofs.lemmas.Option.{same_Some}
 use Rattle.a429_ldu.specs.declared.forms.Form.TheVariants.{Part}
 use Rattle.a429_ldu.specs.Form.{word_number}
 use Rattle.a429_explain.specs.Filled.{zeros}
@@ -6,14 +7,11 @@ use Rattle.a429_explain.proofs.FilledFacts.{fillers_next}
 use Rattle.a429_explain.proofs.filled.fill.Goals as goal
 use Rattle.a429_explain.proofs.filled.fill.Goals.{in-Some+in_ok-push, in_default}
 
-some_same : (m n : ℕ) → Some m ≡ Some n → m ≡ n
-some_same m n e = cc
-
 pub loop-at-preserved : goal.loop-at-preserved
 loop-at-preserved c = elim c.match-filler_word.branch [
   | in-Some+in_ok-push w ↦
       let same =
-      some_same w.in-Some.word
+      same_Some w.in-Some.word
       (word_number c.args.profile.now.codes (Part (zeros c.args.is_odd (c.saturating_sub-wanted.result - (c.loop-at.at + 1)))))
       (sym w.in-Some.is ∙ c.filler_word.ensures) in
       fillers_next c.args.profile.now.codes c.args.is_odd c.loop-at.at c.saturating_sub-wanted.result c.loop-at.words.items

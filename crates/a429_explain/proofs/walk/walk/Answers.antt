@@ -3,9 +3,9 @@ use Rattle.a429_ldu.specs.declared.sight.Sight.{Sight}
 use Rattle.a429_ldu.specs.Sight.{sight_in}
 use Rattle.a429_link.specs.Observer.{Allows}
 use Rattle.a429_cert.specs.Explained.{items_of}
+use Rattle.a429_cert.proofs.ItemsFacts.{length-items_of}
 use Rattle.a429_explain.specs.Screening.{ScreenedEntries}
 use Rattle.a429_explain.specs.Walk.{FitsSight, IsRefusable}
-use Rattle.a429_explain.proofs.MatchingFacts.{length-items_of}
 use Rattle.a429_explain.proofs.WalkFacts.{IsAllowedAt, formed, form_told, is_refusal, item_at, refusable, walked, walks_on}
 use Rattle.a429_explain.proofs.WithoutLoss.{begins}
 use Rattle.a429_explain.proofs.walk.walk.Goals as goal

@@ -1,7 +1,7 @@
 use Rattle.std.proofs.Common.{◌≡◌, ◌<◌, length, Some, slice_get, sym, subst, arith}
 use Rattle.a429_cert.specs.Explained.{items_of}
+use Rattle.a429_cert.proofs.ItemsFacts.{length-items_of}
 use Rattle.a429_explain.specs.Decoded.{HeardValue}
-use Rattle.a429_explain.proofs.MatchingFacts.{length-items_of}
 use Rattle.a429_explain.proofs.WalkFacts.{item_at}
 use Rattle.a429_explain.proofs.decoded.Decoded.seen.Goals as goal
 
