@@ -1,12 +1,12 @@
 -- Counts of what becomes of entries, one more at a time, and their lines.
-use Rattle.std.proofs.Common.{◌≡◌, ◌≢◌, ◌⊎◌, ℕ, suc, ◌+◌, ◌-◌, ◌^◌, ◌<◌, ◌≤◌, ◌==◌, min, Bool, true, false, List, [], ◌∷◌, ◌++◌, length, length-append, append-nil, get_or, set, drop, take, inl, inr, codes, refl, sym, ap, ◌∙◌, subst, arith}
+use Rattle.std.proofs.Common.{◌≡◌, ◌≢◌, ◌⊎◌, ℕ, suc, ◌+◌, ◌-◌, ◌^◌, ◌<◌, ◌==◌, min, Bool, true, false, List, [], ◌∷◌, ◌++◌, length, length-append, get_or, set, drop, take, inl, inr, codes, refl, sym, ap, ◌∙◌, subst, arith}
 use Rattle.std.specs.Prelude.{filter}
 use Rattle.std.specs.Fmt.{decimal}
 use Rattle.std.proofs.lemmas.Bool.{cases_Bool}
 use Rattle.std.proofs.lemmas.Bool.Decides.{nat_tests}
 use Rattle.std.proofs.lemmas.List.{get_or-set_same, get_or-set_other, length-set}
-use Rattle.std.proofs.lemmas.List.Elements.{filter-append}
 use Rattle.a429_word.specs.Digits.{hex_text, numeral}
+use Rattle.a429_word.proofs.CountFacts.{filter_yes, filter_no, filter_short, one_more, counted_yes}
 use Rattle.a429_side.specs.declared.lot.Lot.{Lot}
 use Rattle.a429_side.specs.declared.lot.Lot.TheVariants.{Elsewhere}
 use Rattle.a429_side.specs.declared.counts.Counts.{Counts}
@@ -14,31 +14,6 @@ use Rattle.a429_side.specs.declared.counts.DestinationCount.{DestinationCount}
 use Rattle.a429_side.specs.Counts.{AreCounts, AreDestinations, IsDestinationCount, destination_line, destination_lines, hex_pair, is_a_request, is_at, is_of_none, is_of_other, is_renamed, is_written, no_words}
 
 -- ---- one more, filtered
-
-filter_yes : {X : Type 0} (p : X → Bool) (xs : List X) (x : X) → p x ≡ true → filter p (xs ++ x ∷ []) ≡ filter p xs ++ x ∷ []
-filter_yes p xs x e = filter-append p xs (x ∷ []) ∙ rw e refl
-
-filter_no : {X : Type 0} (p : X → Bool) (xs : List X) (x : X) → p x ≡ false → filter p (xs ++ x ∷ []) ≡ filter p xs
-filter_no p xs x e = filter-append p xs (x ∷ []) ∙ rw e (append-nil (filter p xs))
-
-filter_short : {X : Type 0} (p : X → Bool) (xs : List X) → length (filter p xs) ≤ length xs
-filter_short p [] = omega arith
-filter_short p (x ∷ xs) = elim (cases_Bool (p x)) [
-  | inl here ↦ let short = filter_short p xs in rw here (omega (arith, short))
-  | inr passed ↦ let short = filter_short p xs in rw passed (omega (arith, short))
-]
-
--- a counter that is below the largest number counts one more
-one_more : (new old n : ℕ) → new ≡ min (old + 1) (2 ^ 64 - 1) → old ≡ n → n + 1 < 2 ^ 64 → new ≡ n + 1
-one_more new old n e is few = grind arith
-
--- of some of the entries
-pub counted_yes : (p : Lot → Bool) (lots : List Lot) (lot : Lot) (new old : ℕ) → p lot ≡ true → new ≡ min (old + 1) (2 ^ 64 - 1)
-    → length lots + 1 < 2 ^ 64 → old ≡ length (filter p lots) → new ≡ length (filter p (lots ++ lot ∷ []))
-counted_yes p lots lot new old e is few h =
-    let short = filter_short p lots in
-    one_more new old (length (filter p lots)) is h (omega (arith, short, few))
-    ∙ sym (ap length (filter_yes p lots lot e) ∙ length-append (filter p lots) (lot ∷ []))
 
 counted_no : (p : Lot → Bool) (lots : List Lot) (lot : Lot) (old : ℕ) → p lot ≡ false → old ≡ length (filter p lots)
     → old ≡ length (filter p (lots ++ lot ∷ []))

@@ -1,5 +1,5 @@
 use Rattle.std.proofs.Common.{◌∙◌, sym}
-use Rattle.a429_side.proofs.CountsFacts.{counted_yes}
+use Rattle.a429_word.proofs.CountFacts.{counted_yes}
 use Rattle.a429_side.proofs.counts.with.Goals as goal
 
 pub returns-then-more : goal.returns-then-more
