@@ -3,10 +3,10 @@
 use Rattle.std.proofs.Common.{◌≡◌, ℕ, zero, suc, ◌<◌, ◌≤◌, true, List, [], ◌∷◌, ◌++◌, drop, length, map, slice_get, take, refl, inl, inr, arith, lit≤}
 use Rattle.a429_word.specs.Word.{sum_below}
 use Rattle.a429_word.specs.declared.bus.Bus.TheVariants as bus
-use Rattle.a429_profile.specs.Profile.{Contents}
 use Rattle.a429_link.specs.declared.file.FileBytes.{FileBytes}
 use Rattle.a429_link.specs.declared.seen.Seen.{Seen}
 use Rattle.a429_link.specs.Trace.{files_of, sink_after, sink_at_first}
+use Rattle.a429_link.proofs.SampleRun.{sample}
 use Rattle.a429_sink.specs.declared.owed.Owed.TheVariants as owed
 use Rattle.a429_sink.specs.Anywhere.{Glimpse, GlimpseAllows, GlimpseAllowsNext, IsRefusedAnywhere, glimpse_at_first, glimpsed, glimpses, sure_files}
 use Rattle.a429_sink.specs.History.{ArePieces, Before, MayEnd, open_units}
@@ -17,31 +17,6 @@ word_a w = record { bus = bus.A; word = w }
 
 abbrev word_b : ℕ → Seen
 word_b w = record { bus = bus.B; word = w }
-
-abbrev sample : Contents
-sample = record {
-  codes = record {
-    to_sink = 196;
-    to_source = 197;
-    destination = 65;
-    first_ldu = 1;
-    final_bit = 25;
-    full = 0;
-    partial = 1;
-    protocol = 4;
-    sot = 6;
-    eot = 7;
-    rts = 1;
-    cts = 2;
-    ack = 5;
-    nak = 6;
-    ignored_types = 5 ∷ [];
-    ignored_codes = 3 ∷ [];
-    partial_codes = 1 ∷ 2 ∷ 3 ∷ 4 ∷ [];
-  };
-  check = record { poly = 0x1021; init = 0xffff; xor = 0xffff; low_first = true; compare = true };
-  labels = [];
-}
 
 -- a request, the clear answer, and the block of the byte 41: start word, data word, and end word
 abbrev rts : Seen

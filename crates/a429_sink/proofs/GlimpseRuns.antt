@@ -17,17 +17,13 @@ use Rattle.a429_link.specs.Step.{Can, after, label}
 use Rattle.a429_link.specs.Trace.{sink_at_first, sink_sees}
 use Rattle.a429_link.proofs.Message.{IsRead, Message}
 use Rattle.a429_link.proofs.ObserverRefuses.{allows_same, sees_on_as, sees_same, seeing}
-use Rattle.a429_link.proofs.RunTraces.{AllAllowed, see_item, trace_allowed}
+use Rattle.a429_link.proofs.RunTraces.{AllAllowed, see_item, trace_allowed, see_label}
 use Rattle.a429_link.proofs.SinkFromTrace.{sees}
 use Rattle.a429_link.proofs.StateConfigs.{may_owes}
 use Rattle.a429_link.proofs.StateHolds.{owed_form}
 use Rattle.a429_sink.specs.Anywhere.{Glimpse, GlimpseAllows, GlimpseAllowsNext, IsRefusedAnywhere, glimpse_at_first, glimpsed, glimpses, glimpses_form}
 use Rattle.a429_sink.proofs.AnywhereRuns.{Going, JoinsBy, joins_by, next_part, owing_sink, start_going, step_going}
 use Rattle.a429_sink.proofs.GlimpseFacts.{GlimpseOf, answer_glimpsed, glimpse_allows, word_glimpsed}
-
-abbrev pub see_label : Contents → Option Seen → List Message → List Message
-see_label p None seen = seen
-see_label p (Some i) seen = see_item p i seen
 
 abbrev pub glimpses_label : Contents → Option Seen → Glimpse → Glimpse
 glimpses_label p None g = g

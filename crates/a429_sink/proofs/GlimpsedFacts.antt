@@ -1,5 +1,6 @@
 -- What is kept of a sink where the recording begins anywhere.
 use Rattle.std.proofs.Common.{◌≡◌, ◌↔◌, ◌⊎◌, ℕ, Bool, true, false, cond, eqb, not, ◌&&◌, List, [], ◌++◌, append-nil, Option, Some, None, option_map, unwrap_or, refl, sym, ap, ◌∙◌, subst, inl, inr}
+use Rattle.std.proofs.lemmas.Bool.{and_parts}
 use Rattle.a429_word.specs.declared.bus.Bus.{Bus}
 use Rattle.a429_word.specs.declared.bus.Bus.TheVariants as bus
 use Rattle.a429_profile.specs.Profile.{Contents}
@@ -314,11 +315,6 @@ abbrev pub IsNew : UnitStep → Type 0
 IsNew step.Again = ⊥
 IsNew _ = Unit {0}
 
--- both hold
-both_hold : (a b : Bool) → (a && b) ≡ true → (a ≡ true) × (b ≡ true)
-both_hold true b e = (refl, e)
-both_hold false b e = absurd (cc e)
-
 -- what is received with the unit of this block, by its step, and what is known then
 joined_by : (c : Codes) (b : Block) (flags : ℕ) (k : Known) (l : Option Latest) (whole : Bool) (s : Sink) (st : UnitStep)
     → k.last ≡ option_map (λ (n : Latest). n.number) l → k.bytes ≡ bytes_if whole s.received.open_bytes → s.received.files ≡ []
@@ -336,7 +332,7 @@ joined_by c b flags k l whole s step.First last bytes none h o =
     (joined_first c b flags k s.received.open_bytes
     (ap (λ (q : Option UnitNumber). is_known q (number_of b)) last ∙ known_as l (number_of b) ∙ h.0) h.1)
 joined_by c b flags k l whole s step.Next last bytes none h o =
-    let next = both_hold whole (is_same_file (option_map latest_number l) b.file) h.2 in
+    let next = and_parts whole (is_same_file (option_map latest_number l) b.file) h.2 in
     subst (λ (r : Received). Joined c b flags k r (not (is_final c flags)))
     (sym (rec_next c b flags (option_map latest_number l) s h.0 next.1))
     (subst (λ (fs : List FileBytes).

@@ -1,5 +1,5 @@
 -- The sink of a whole recording, as it is read.
-use Rattle.std.proofs.Common.{◌≡◌, ◌+◌, ℕ, suc, List, [], ◌∷◌, ◌++◌, length, take, Option, Some, None, IfSome, refl, sym, ap, ◌∙◌, subst}
+use Rattle.std.proofs.Common.{◌≡◌, ◌+◌, ℕ, List, [], ◌∷◌, ◌++◌, length, take, Option, Some, None, IfSome, sym, ap, ◌∙◌, subst}
 use Rattle.std.proofs.Math.Seq.{take-append_seam}
 use Rattle.a429_profile.specs.Profile.{Contents, IsProfile}
 use Rattle.a429_link.specs.declared.seen.Seen.{Seen}
@@ -12,6 +12,7 @@ use Rattle.a429_cert.specs.Explained.{items_of, seen_of}
 use Rattle.a429_record.specs.declared.fault.ReadFault.TheVariants as read
 use Rattle.a429_record.specs.Recording.{Recording}
 use Rattle.a429_record.specs.Rows.{Stops}
+use Rattle.a429_cert.proofs.ItemsFacts.{items_push, length-items_of}
 use Rattle.a429_parts.specs.Keeping.{BeginsWith, Taken, with_entries}
 use Rattle.a429_parts.proofs.KeepingFacts.{Came}
 use Rattle.a429_sink.specs.declared.lone_trace.LoneTrace.{LoneTrace}
@@ -21,14 +22,6 @@ use Rattle.a429_sink.specs.Judging.{SinkNo, SinkYes, SeesWhole}
 use Rattle.a429_sink.specs.LoneTrace.{IsLoneTrace, IsRefusal}
 use Rattle.a429_sink.proofs.AloneFacts.{allowed_keeps, delivers_recorded, keeps_allowed}
 use Rattle.a429_sink.proofs.OwedFacts.{last_refused}
-
-pub items_push : (es : List Entry) (e : Entry) → items_of (es ++ e ∷ []) ≡ items_of es ++ seen_of e ∷ []
-items_push [] e = refl
-items_push (x ∷ es) e = ap (λ (is : List Seen). seen_of x ∷ is) (items_push es e)
-
-pub items_length : (es : List Entry) → length (items_of es) ≡ length es
-items_length [] = refl
-items_length (x ∷ es) = ap suc (items_length es)
 
 pub traced_more : (p : Contents) (es : List Entry) (e : Entry) (t : LoneTrace)
     → IsLoneTrace p (items_of es ++ seen_of e ∷ []) t → IsLoneTrace p (items_of (es ++ e ∷ [])) t
@@ -69,7 +62,7 @@ pub says_no : (p : Contents) → IsProfile p → (t : Taken) (es : List Entry) (
     → t.given ≡ length es + 1
     → IsRefusal p (items_of es ++ seen_of e ∷ []) r × (r.entry ≡ length (items_of es)) → SinkNo p t r
 says_no p is t es e r begins came h =
-    let n : r.entry ≡ length es = h.1 ∙ items_length es in
+    let n : r.entry ≡ length es = h.1 ∙ length-items_of es in
     let before : take r.entry (items_of es ++ seen_of e ∷ []) ≡ items_of es =
     ap (λ (m : ℕ). take m (items_of es ++ seen_of e ∷ [])) h.1 ∙ take-append_seam (items_of es) (seen_of e ∷ []) in
     let refused : IsSinkRefused p (items_of es ++ seen_of e ∷ []) (length (items_of es)) =

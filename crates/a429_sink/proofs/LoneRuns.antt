@@ -1,7 +1,7 @@
 -- What is kept of a sink by itself is what the words say of it.
 use Rattle.std.proofs.Common.{◌≡◌, ◌↔◌, ◌⊎◌, ℕ, ◌+◌, ◌==◌, Bool, true, false, cond, nat_lt, List, [], ◌∷◌, ◌++◌, append-nil, length, Option, Some, None, refl, sym, ap, ◌∙◌, subst, inl, inr, arith}
 use Rattle.std.proofs.lemmas.Bool.Decides.{nat_tests}
-use Rattle.std.proofs.lemmas.List.{length-append}
+use Rattle.std.proofs.lemmas.List.{length_push}
 use Rattle.a429_word.specs.declared.bus.Bus.{Bus}
 use Rattle.a429_word.specs.declared.bus.Bus.TheVariants as bus
 use Rattle.a429_profile.specs.Profile.{Contents}
@@ -56,9 +56,6 @@ start_twice count new Granted = refl
 start_twice count new (OwesAck b flags) = refl
 start_twice count new OwesNak = refl
 
-pushed : (words : List ℕ) (w : ℕ) → length (words ++ w ∷ []) ≡ length words + 1
-pushed words w = length-append words (w ∷ [])
-
 part_twice : (count w : ℕ) (phase : SinkPhase) → SameCapped count (at_part w) phase
 part_twice count w (InBlock b) = by (nat_lt count (length b.words + 2)) refl
   where
@@ -67,7 +64,7 @@ part_twice count w (InBlock b) = by (nat_lt count (length b.words + 2)) refl
     by false e = refl
     by true e =
         let more : nat_lt count (length b.words + 1 + 2) ≡ true = grind (arith, nat_tests) in
-        sym (ap (λ (n : ℕ). cond (nat_lt count (n + 2)) Granted (at_part w (InBlock b))) (pushed b.words w)
+        sym (ap (λ (n : ℕ). cond (nat_lt count (n + 2)) Granted (at_part w (InBlock b))) (length_push b.words w)
         ∙ ap (λ (t : Bool). cond t Granted (at_part w (InBlock b))) more)
 part_twice count w Quiet = refl
 part_twice count w OwesClear = refl

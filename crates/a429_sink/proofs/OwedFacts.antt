@@ -7,6 +7,7 @@ use Rattle.std.proofs.lemmas.List.Elements.{Contains-push_cases}
 use Rattle.std.proofs.Math.Seq.{take-append_seam}
 use Rattle.a429_word.specs.declared.bus.Bus.{Bus}
 use Rattle.a429_word.specs.declared.bus.Bus.TheVariants as bus
+use Rattle.a429_word.proofs.ListFacts.{last_item}
 use Rattle.a429_profile.specs.Profile.{Contents}
 use Rattle.a429_ldu.specs.Form.{form_of}
 use Rattle.a429_ldu.specs.declared.forms.Form.{Form}
@@ -126,10 +127,6 @@ request_within p [] zero h = absurd h
 request_within p [] (suc m) h = absurd h
 request_within p (x ∷ items) zero h = omega arith
 request_within p (x ∷ items) (suc m) h = let l = request_within p items m h in omega arith
-
-last_item : (items : List Seen) (i : Seen) → slice_get (items ++ i ∷ []) (length items) ≡ Some i
-last_item [] i = refl
-last_item (x ∷ items) i = last_item items i
 
 take_first : (items : List Seen) (i : Seen) (m : ℕ) → m < length items → take m (items ++ i ∷ []) ≡ take m items
 take_first items i m l = take-append-le m items (i ∷ []) (omega arith)

@@ -350,6 +350,12 @@ piece_at_first p t trace e = record {
 
 -- ---- where it ends
 
+-- a file begins only where there is a word
+pub may_inside : (p : Contents) (l : List Seen) (n : ℕ) → BeginsFileAt p l n → n < length l
+may_inside p [] n h = absurd h
+may_inside p (y ∷ l) zero h = omega arith
+may_inside p (y ∷ l) (suc n) h = let k = may_inside p l n h in omega (arith, k)
+
 module _ (p : Contents) (items : List Seen) (t : PieceTrace) (is : IsPieceTrace p items t) where
   ends_with : (s : Stop) → t.trace.stop ≡ Some s → (m : Mark) → t.requests.place ≡ Some m → (rest : List Seen)
       → ((n : ℕ) → n ≤ s.place → IsAt n t.requests.doubt × BeginsFile p.codes (next_start p.codes rest) → ⊥)
@@ -433,19 +439,13 @@ module _ (p : Contents) (items : List Seen) (t : PieceTrace) (is : IsPieceTrace 
         subst (λ (l : List Seen). EndsAt p l m.place) (append-nil items) (ends_with s stop m e [] (λ n l b. b.1)),
       )
 
-  -- a piece may end only where there is a word
-  may_inside : (l : List Seen) (n : ℕ) → BeginsFileAt p l n → n < length l
-  may_inside [] n h = absurd h
-  may_inside (y ∷ l) zero h = omega arith
-  may_inside (y ∷ l) (suc n) h = let k = may_inside l n h in omega (arith, k)
-
   pub is_last : end_at_last t ≡ None → IsLastPiece p items
   is_last e = by t.trace.stop refl e
     where
       none : t.requests.place ≡ None → (m : ℕ) → MayEnd p items m → ⊥
       none e m h =
           off (subst (λ (q : Option Mark). IsUpToMark m q ⊎ (IsAt m t.requests.doubt × BeginsFile p.codes (next_start p.codes []))) e
-          (is.requests.others [] m (may_inside items m h.1) (subst (λ (l : List Seen). MayEnd p l m) (sym (append-nil items)) h)))
+          (is.requests.others [] m (may_inside p items m h.1) (subst (λ (l : List Seen). MayEnd p l m) (sym (append-nil items)) h)))
         where
           off : ⊥ ⊎ (IsAt m t.requests.doubt × BeginsFile p.codes (next_start p.codes [])) → ⊥
           off (inl h) = h

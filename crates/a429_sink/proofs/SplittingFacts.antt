@@ -14,6 +14,7 @@ use Rattle.a429_record.specs.declared.fault.ReadFault.{ReadFault}
 use Rattle.a429_record.specs.declared.fault.ReadFault.TheVariants as read
 use Rattle.a429_record.specs.Recording.{Recording}
 use Rattle.a429_record.specs.Rows.{Stops}
+use Rattle.a429_cert.proofs.ItemsFacts.{items_push}
 use Rattle.a429_parts.specs.Cutting.{BeginsFile, next_start}
 use Rattle.a429_parts.specs.Keeping.{Taken, with_entries}
 use Rattle.a429_parts.proofs.KeepingFacts.{Came}
@@ -35,8 +36,7 @@ use Rattle.a429_sink.specs.Summary.{AreSummaries, AreTold, Says}
 use Rattle.a429_sink.specs.Requests.{IsAt, IsMarked, IsUpToMark}
 use Rattle.a429_sink.specs.StoppingTrace.{place_in, sure_in}
 use Rattle.a429_sink.specs.Splitting.{AreFirstPieces, AreSaid, EndsPiece, EndsThere, Has, HasAll, HasBegunAnew, IsHolding, IsLeft, IsSplit, IsUpTo, PutsUntil, Replays, SeesNext, Splits, SplitsUntil, joined_said, said_at, words_of}
-use Rattle.a429_sink.proofs.JudgingFacts.{items_push}
-use Rattle.a429_sink.proofs.PieceFacts.{ends_at, ends_at_last, is_last, mark_now, settled_is, settled_past}
+use Rattle.a429_sink.proofs.PieceFacts.{ends_at, ends_at_last, is_last, mark_now, settled_is, settled_past, may_inside}
 use Rattle.a429_sink.proofs.RequestFacts.{may_end}
 
 -- ---- lists
@@ -254,16 +254,11 @@ module _ (p : Contents) (at_end : Bool) (first before now : Option PutPieces) (e
   never is k n some h =
       off (subst (λ (o : Option Mark). IsUpToMark (m.place + n) o
       ⊎ (IsAt (m.place + n) old.piece.requests.doubt × BeginsFile p.codes (next_start p.codes []))) k
-      (is.piece.requests.others [] (m.place + n) (inside (items_of is.es) (m.place + n) there)
+      (is.piece.requests.others [] (m.place + n) (may_inside p (items_of is.es) (m.place + n) there)
       (subst (λ (l : List Seen). MayEnd p l (m.place + n)) (sym (append-nil (items_of is.es))) (omega (arith, some), there))))
     where
       there : BeginsFileAt p (items_of is.es) (m.place + n)
       there = no_later p (items_of is.es) m.place n h
-
-      inside : (l : List Seen) (k : ℕ) → BeginsFileAt p l k → k < length l
-      inside [] k b = absurd b
-      inside (x ∷ l) zero b = omega arith
-      inside (x ∷ l) (suc k) b = let r = inside l k b in omega (arith, r)
 
       off : (m.place + n ≤ m.place) ⊎ (IsAt (m.place + n) old.piece.requests.doubt × BeginsFile p.codes (next_start p.codes [])) → ⊥
       off (inl l) = omega (arith, l, some)

@@ -3,6 +3,7 @@ use Rattle.std.proofs.Common.{◌≡◌, ℕ, zero, suc, ◌<◌, ◌+◌, List,
 use Rattle.std.specs.Prelude.{true, false, is_some}
 use Rattle.std.proofs.Math.Seq.{take-append_seam}
 use Rattle.std.proofs.lemmas.List.{length-append, take-append-le}
+use Rattle.a429_word.proofs.Outcomes.{not_some}
 use Rattle.a429_profile.specs.Profile.{Contents}
 use Rattle.a429_link.specs.declared.file.FileBytes.{FileBytes}
 use Rattle.a429_link.specs.declared.seen.Seen.{Seen}
@@ -142,10 +143,6 @@ goes_past p items i t size e some is = by t.stop refl some
         subst (λ (n : ℕ). IsStoppingTrace p (items ++ i ∷ []) (record { trace = t.trace; size = n; files = t.files; stop = t.stop }))
         (sym e) (trace_past p items i t s stop is).0
 
-no_stop : (s : Option Stop) → is_some s ≡ false → s ≡ None
-no_stop None e = refl
-no_stop (Some s) e = absurd (cc e)
-
 pub trace_grown : (p : Contents) (items : List Seen) (i : Seen) (t : StoppingTrace) (new : GlimpsedTrace) (size count : ℕ)
     (files : List FileBytes) → size ≡ suc t.size → count ≡ t.files + length files → is_some t.stop ≡ false → IsStoppingTrace p items t
     → (IsGlimpsedTrace p items t.trace → IsGlimpsedTrace p (items ++ i ∷ []) new)
@@ -154,7 +151,7 @@ pub trace_grown : (p : Contents) (items : List Seen) (i : Seen) (t : StoppingTra
 trace_grown p items i t new size count files e n none is goes sure =
     subst (λ (m : ℕ). IsStoppingTrace p (items ++ i ∷ []) (record { trace = new; size = m; files = count; stop = t.stop })) (sym e)
     (subst (λ (m : ℕ). IsStoppingTrace p (items ++ i ∷ []) (record { trace = new; size = suc t.size; files = m; stop = t.stop })) (sym n)
-    (trace_on p items i t new files (no_stop t.stop none) is goes sure).0)
+    (trace_on p items i t new files (not_some t.stop none) is goes sure).0)
 
 pub ends_here : (p : Contents) (items : List Seen) (i : Seen) (t : StoppingTrace) (new : GlimpsedTrace) (size : ℕ)
     → size ≡ suc t.size → new ≡ t.trace → is_some t.stop ≡ false → IsStoppingTrace p items t
@@ -162,7 +159,7 @@ pub ends_here : (p : Contents) (items : List Seen) (i : Seen) (t : StoppingTrace
     → IsStoppingTrace p (items ++ i ∷ [])
     (record { trace = new; size = size; files = t.files; stop = Some (record { place = t.size; seen = i }) })
 ends_here p items i t new size e same none is refused =
-    let stop = no_stop t.stop none in
+    let stop = not_some t.stop none in
     subst (λ (m : ℕ). IsStoppingTrace p (items ++ i ∷ [])
     (record { trace = new; size = m; files = t.files; stop = Some (record { place = t.size; seen = i }) }))
     (sym e)
