@@ -5,6 +5,7 @@ use Rattle.a429_ldu.specs.declared.forms.Form.{Form}
 use Rattle.a429_ldu.specs.declared.sight.Sight.{Sight}
 use Rattle.a429_ldu.specs.Form.{form_of}
 use Rattle.a429_ldu.specs.Sight.{sight_in, form_in}
+use Rattle.a429_ldu.proofs.FormFree.{free_none}
 use Rattle.a429_link.specs.declared.seen.Seen.{Seen}
 use Rattle.a429_link.specs.declared.doing.Crossing.{Crossing}
 use Rattle.a429_link.specs.Sink.{Number, Sink, SinkPhase}
@@ -26,7 +27,6 @@ use Rattle.a429_record.specs.Recording.{Recording, whole}
 use Rattle.a429_view.specs.declared.trace.TraceStop.TheVariants as stop
 use Rattle.a429_view.specs.declared.trace.Trace.{Trace}
 use Rattle.a429_view.specs.Trace.{GoesOn, IsTrace, IsTraceStop, crossings_by, line_of, lines_of, refused_line}
-use Rattle.a429_view.proofs.TraceFacts.{free_none}
 use Rattle.a429_commands.specs.declared.fault.RunFault.{RunFault}
 use Rattle.a429_commands.specs.declared.fault.RunFault.TheVariants as run
 use Rattle.a429_parts.specs.Keeping.{Taken}

@@ -29,13 +29,13 @@ use Rattle.a429_link.proofs.ImpliedFacts.{file_crosses, files_stay_without, impl
 use Rattle.a429_link.proofs.MessageRead.{is_read}
 use Rattle.a429_link.proofs.TraceFiles.{files_delivered}
 use Rattle.a429_record.specs.declared.entry.Entry.{Entry}
+use Rattle.a429_ldu.proofs.FormFree.{free_none}
 use Rattle.a429_cert.specs.Explained.{items_of, seen_of}
 use Rattle.a429_view.specs.declared.blocks.row.Answer.{Answer}
 use Rattle.a429_view.specs.declared.blocks.row.Answer.TheVariants as answer
 use Rattle.a429_view.specs.BlockFiles.{NameFiles, are_final, delivering_rows, delivers, file_in, flags_by, is_accepted}
 use Rattle.a429_view.specs.Blocks.{Attempt, Placed, acknowledged_by, answer_by, answer_in, asked_by, attempt_by, attempts, before_request, form_at, latest, placed_from, row_of, unit_by, up_to}
 use Rattle.a429_view.specs.Trace.{crossings_by}
-use Rattle.a429_view.proofs.TraceFacts.{free_none}
 
 -- ---- the files, word by word
 

@@ -10,6 +10,7 @@ use Rattle.a429_word.specs.declared.bus.Bus.TheVariants as bus
 use Rattle.a429_word.specs.declared.sheet.Sheet.{Sheet}
 use Rattle.a429_word.specs.Sheet.{Says}
 use Rattle.a429_word.proofs.SheetFacts.{says_nothing}
+use Rattle.a429_word.proofs.CountFacts.{one_more}
 use Rattle.a429_profile.specs.Profile.{Contents}
 use Rattle.a429_ldu.specs.declared.forms.Form.{Form}
 use Rattle.a429_ldu.specs.Form.{form_of, is_free}
@@ -18,13 +19,14 @@ use Rattle.a429_link.specs.Observer.{AllowsForm}
 use Rattle.a429_link.specs.Implied.{Implied, does, implied, implied_at_first, implies, implies_form, observer_of}
 use Rattle.a429_link.proofs.ImpliedFacts.{implied_push}
 use Rattle.a429_record.specs.declared.entry.Entry.{Entry}
+use Rattle.a429_ldu.proofs.FormFree.{free_none}
 use Rattle.a429_cert.specs.Explained.{items_of, seen_of}
+use Rattle.a429_cert.proofs.ItemsFacts.{items_push}
 use Rattle.a429_view.specs.declared.units.span.Moment.{Moment}
 use Rattle.a429_view.specs.declared.blocks.row.AttemptRow.{AttemptRow}
 use Rattle.a429_view.specs.declared.blocks.Blocks.{Blocks}
 use Rattle.a429_view.specs.Trace.{has_line}
 use Rattle.a429_view.specs.Blocks.{IsBlocks, Placed, PutsOnTo, answer_in, asked_by, attempt_by, attempts, before_request, begun_text, blocks_text, columns_text, ended_line, ended_rows, form_at, is_a, is_damaged, is_odd, is_of_block, last_line, moment_at, moment_in, not_allowed_line, placed, placed_from, refused_text, row_of, rows_of, unit_by, up_to, why_in}
-use Rattle.a429_view.proofs.TraceFacts.{free_none}
 use Rattle.a429_view.specs.BlockSteps.{StepsOn, begun, counted, grown, line_before, noted, passed, place_next, row_after, row_with}
 
 -- ---- places
@@ -259,14 +261,6 @@ ended_text : (o : Option ℕ) (row : Option AttemptRow) → flat_map ended_line 
 ended_text None row = refl
 ended_text (Some asked) None = refl
 ended_text (Some asked) (Some r) = append-nil (ended_line r)
-
-items_push : (es : List Entry) (e : Entry) → items_of (es ++ e ∷ []) ≡ items_of es ++ seen_of e ∷ []
-items_push [] e = refl
-items_push (x ∷ es) e = ap (λ (is : List Seen). seen_of x ∷ is) (items_push es e)
-
--- a counter that is below the largest number counts one more
-one_more : (new old n : ℕ) → new ≡ min (old + 1) (2 ^ 64 - 1) → old ≡ n → n + 1 < 2 ^ 64 → new ≡ n + 1
-one_more new old n e is few = grind arith
 
 place_is : (p : Contents) (b : Blocks) (es : List Entry) (e : Entry) → IsBlocks p b es → place_next b e ≡ place_after p es e
 place_is p b es e h =

@@ -21,7 +21,7 @@ use Rattle.a429_link.specs.declared.step.Step.{Step}
 use Rattle.a429_link.specs.declared.step.Step.TheVariants.{Answered, FreeSeen, GiveUp, Load, LoseAnswer, Sent, SentLost, Silent, SinkTakes, TakeAnswer, TimeOut}
 use Rattle.a429_link.specs.Number.{is_number}
 use Rattle.a429_link.specs.Source.{Source, acknowledged, with_answer, with_answer_first, with_answer_form}
-use Rattle.a429_link.specs.Sink.{Block, MayAnswerForm, Number, Received, Sink, SinkPhase, accepts, accepts_owed, answers_form, nothing_received, is_same, number_of, put, received_for, takes_first, takes_form}
+use Rattle.a429_link.specs.Sink.{Block, MayAnswerForm, Number, Received, Sink, SinkPhase, accepts, accepts_owed, answers_form, nothing_received, is_same, number_of, put, received_for, takes_first}
 use Rattle.a429_link.specs.State.{State, start}
 use Rattle.a429_link.specs.Step.{Can, after, label}
 use Rattle.a429_link.specs.Run.{IsRun, end_of, offers, settles, trace, with_label}
@@ -32,7 +32,7 @@ use Rattle.a429_link.proofs.StateConfigs.{Config, Whole, idle, asked, unasked, s
 use Rattle.a429_link.proofs.StateHolds.{step_holds}
 use Rattle.a429_link.proofs.SinkFromTrace.{takes_received}
 use Rattle.a429_link.proofs.SinkShelves.{past_new, received_for_files}
-use Rattle.a429_link.proofs.RunCrossing.{Books, Stand, start_books, step_crosses}
+use Rattle.a429_link.proofs.RunCrossing.{Books, Stand, start_books, step_crosses, takes_last}
 use Rattle.a429_record.specs.declared.entry.Entry.{Entry}
 use Rattle.a429_cert.specs.declared.act.Act.{Act}
 use Rattle.a429_cert.specs.declared.act.Act.TheVariants as act
@@ -114,15 +114,9 @@ first_due : (p : Contents) (ws : List ℕ) (s : Source) (last : Option Number) (
 first_due p [] s last due h = h
 first_due p (w ∷ ws) s last due h = form_due p (form_of p.codes bus.B w) s last due h
 
--- a word that the sink takes leaves what it accepted last, and its files
-form_last : (p : Contents) (w : ℕ) (o : Option Form) (k : Sink) → (takes_form p w o k).last ≡ k.last
-form_last p w None k = refl
-form_last p w (Some (form.Rts n)) k = refl
-form_last p w (Some _) k = refl
-
 takes_keeps : (p : Contents) (ws : List ℕ) (k : Sink) → ((takes_first p ws k).last ≡ k.last) × ((takes_first p ws k).received ≡ k.received)
 takes_keeps p [] k = (refl, refl)
-takes_keeps p (w ∷ ws) k = (form_last p w (form_of p.codes bus.A w) k, takes_received p w (form_of p.codes bus.A w) k)
+takes_keeps p (w ∷ ws) k = (takes_last p w (form_of p.codes bus.A w) k, takes_received p w (form_of p.codes bus.A w) k)
 
 -- ---- an answer
 

@@ -1,17 +1,17 @@
 -- Counts of entries, one more at a time.
-use Rattle.std.proofs.Common.{◌≡◌, ◌≢◌, ℕ, zero, suc, ◌+◌, ◌-◌, ◌^◌, ◌%◌, ◌<◌, ◌≤◌, ◌==◌, min, Bool, true, false, cond, not, List, [], ◌∷◌, ◌++◌, length, length-append, append-nil, get_or, set, inl, inr, codes, Option, Some, None, ◌&&◌, refl, sym, ap, ◌∙◌, subst, arith}
+use Rattle.std.proofs.Common.{◌≡◌, ◌≢◌, ℕ, zero, suc, ◌+◌, ◌-◌, ◌^◌, ◌%◌, ◌<◌, ◌≤◌, ◌==◌, min, Bool, true, false, cond, not, List, [], ◌∷◌, ◌++◌, length, length-append, get_or, set, inl, inr, codes, Option, Some, None, ◌&&◌, refl, sym, ap, ◌∙◌, subst, arith}
 use Rattle.std.specs.Prelude.{filter, flat_map}
 use Rattle.std.specs.List.{list_any}
 use Rattle.std.specs.Fmt.{decimal}
 use Rattle.std.proofs.lemmas.Bool.{cases_Bool}
 use Rattle.std.proofs.lemmas.Bool.Decides.{nat_tests}
 use Rattle.std.proofs.lemmas.List.{get_or-set_same, get_or-set_other, length-set}
-use Rattle.std.proofs.lemmas.List.Elements.{filter-append}
 use Rattle.a429_word.specs.Word.{count_of_ones, label_of, number_at}
 use Rattle.a429_word.specs.Digits.{octal_text}
 use Rattle.a429_word.specs.Bus.{bus_text}
 use Rattle.a429_word.specs.declared.bus.Bus.{Bus}
 use Rattle.a429_word.specs.declared.bus.Bus.TheVariants as bus
+use Rattle.a429_word.proofs.CountFacts.{filter_yes, filter_no, filter_short, one_more}
 use Rattle.a429_profile.specs.declared.codes.Codes.{Codes}
 use Rattle.a429_ldu.specs.declared.forms.Form.{Form}
 use Rattle.a429_ldu.specs.declared.forms.Form.TheVariants as form
@@ -27,21 +27,6 @@ use Rattle.a429_view.specs.declared.survey.counts.LabelCount.{LabelCount}
 use Rattle.a429_view.specs.declared.survey.counts.BusCount.{BusCount}
 use Rattle.a429_view.specs.declared.survey.Survey.{Survey}
 use Rattle.a429_view.specs.Survey.{Numbered, numbered, kind_in, kind_of, kinds, on_bus, is_bus, of_kind, place, place_of, label_in, with_label, with_even_parity, is_even, last_time, IsHits, IsLabelCount, IsBusCount, IsSurvey, AreTimes, no_hits, no_label, name, times_line, kind_line, label_line, label_lines, bus_lines, survey_text, times_text, kind_text, label_text, counted_kind, counted_label, counted_labels, count_lines, text_of}
-
--- ---- one more element, filtered
-
-pub filter_yes : {X : Type 0} (p : X → Bool) (xs : List X) (x : X) → p x ≡ true → filter p (xs ++ x ∷ []) ≡ filter p xs ++ x ∷ []
-filter_yes p xs x e = filter-append p xs (x ∷ []) ∙ rw e refl
-
-pub filter_no : {X : Type 0} (p : X → Bool) (xs : List X) (x : X) → p x ≡ false → filter p (xs ++ x ∷ []) ≡ filter p xs
-filter_no p xs x e = filter-append p xs (x ∷ []) ∙ rw e (append-nil (filter p xs))
-
-pub filter_short : {X : Type 0} (p : X → Bool) (xs : List X) → length (filter p xs) ≤ length xs
-filter_short p [] = omega arith
-filter_short p (x ∷ xs) = elim (cases_Bool (p x)) [
-  | inl here ↦ let short = filter_short p xs in rw here (omega (arith, short))
-  | inr passed ↦ let short = filter_short p xs in rw passed (omega (arith, short))
-]
 
 -- ---- a table of counts, by a key of what is counted
 
@@ -65,10 +50,6 @@ by_more key Is none size table xs x h long inside before one k l = elim (cases_B
 ]
 
 -- ---- the counts of a kind and of a label
-
--- a counter that is below the largest number counts one more
-one_more : (new old n : ℕ) → new ≡ min (old + 1) (2 ^ 64 - 1) → old ≡ n → n + 1 < 2 ^ 64 → new ≡ n + 1
-one_more new old n e is few = grind arith
 
 even_more : (xs : List Numbered) (x : Numbered)
     → length (with_even_parity (xs ++ x ∷ [])) ≡ length (with_even_parity xs) + cond (is_even x) 1 0
@@ -332,9 +313,3 @@ even_by_kind c x k is = ap is_of_parity is ∙ parity_of_kind c x.entry.bus x.en
 pub no_reason : (o : Option Freedom) → (o ≢ None → ⊥) → o ≡ None
 no_reason None h = refl
 no_reason (Some why) h = absurd (h (λ e. absurd (cc e)))
-
--- an element that is there does not depend on what is read where there is none
-pub read_of : {X : Type 0} (xs : List X) (i : ℕ) (d e : X) → i < length xs → get_or xs i d ≡ get_or xs i e
-read_of [] i d e l = absurd (omega arith)
-read_of (x ∷ xs) zero d e l = refl
-read_of (x ∷ xs) (suc i) d e l = read_of xs i d e (omega arith)

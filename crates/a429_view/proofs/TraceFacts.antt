@@ -15,7 +15,7 @@ use Rattle.a429_ldu.specs.declared.sight.Sight.TheVariants as sight
 use Rattle.a429_ldu.specs.Form.{IsFree, form_of, is_free}
 use Rattle.a429_ldu.specs.Freedom.{freedom_of}
 use Rattle.a429_ldu.specs.Sight.{form_in, sight_in, sight_of}
-use Rattle.a429_ldu.proofs.FormFree.{is_free-decides}
+use Rattle.a429_ldu.proofs.FormFree.{is_free-decides, free_none}
 use Rattle.a429_ldu.proofs.FreedomFacts.{some_where_free}
 use Rattle.a429_ldu.proofs.SightFacts.{form_of-sight}
 use Rattle.a429_link.specs.declared.doing.Doing.TheVariants as doing
@@ -56,9 +56,6 @@ knows c b w s e = subst (Knows c b w) (sym e) (elim (cases_Bool (is_free c b w))
     by : is_free c b w ≡ false → (x : Option Form) → x ≡ form_of c b w → Knows c b w (sight_in x)
     by not (Some x) is = (not, no_reason c b w not, sym is)
     by not None is = (not, no_reason c b w not, sym is)
-
-pub free_none : (c : Codes) (b : Bus) (w : ℕ) → is_free c b w ≡ true → form_of c b w ≡ None
-free_none c b w free = sym (form_of-sight c b w) ∙ ap form_in (ap (λ t. cond t sight.Free (sight_in (form_of c b w))) free)
 
 -- ---- lines
 

@@ -5,6 +5,7 @@ use Rattle.std.specs.Option.{option_map}
 use Rattle.std.specs.Io.KnownBytes.{Appends}
 use Rattle.std.proofs.KnownBytes.{Appends-nil, Appends-trans}
 use Rattle.std.proofs.lemmas.List.{append-nil}
+use Rattle.std.proofs.Math.Bool.{or_assoc, or-false}
 use Rattle.a429_word.specs.Page.{paged, PutsOn}
 use Rattle.a429_profile.specs.declared.codes.Codes.{Codes}
 use Rattle.a429_profile.specs.Profile.{Contents}
@@ -71,17 +72,9 @@ last_on-is (t ∷ steps) o = by (moment_of t) (λ m. last_on-is steps m)
     by None h = h o
     by (Some m) h = h (Some m)
 
-or-again : (a b d : Bool) → ((a || b) || d) ≡ (a || (b || d))
-or-again true b d = refl
-or-again false b d = refl
-
-or-false : (b : Bool) → b ≡ (b || false)
-or-false true = refl
-or-false false = refl
-
 any_on-is : (p : Report → Bool) (steps : List Report) (b : Bool) → any_on p steps b ≡ (b || list_any p steps)
-any_on-is p [] b = or-false b
-any_on-is p (t ∷ steps) b = any_on-is p steps (b || p t) ∙ or-again b (p t) (list_any p steps)
+any_on-is p [] b = sym (or-false b)
+any_on-is p (t ∷ steps) b = any_on-is p steps (b || p t) ∙ or_assoc b (p t) (list_any p steps)
 
 -- ---- the row of a unit
 
