@@ -11,7 +11,10 @@ use Rattle.a429_link.proofs.MessageRead.{is_read}
 use Rattle.a429_link.proofs.ObserverRefuses as refuses
 use Rattle.a429_record.specs.declared.entry.Entry.{Entry}
 use Rattle.a429_record.specs.Recording.{Recording, whole}
+use Rattle.a429_link.proofs.ImpliedFacts.{observer_again}
+use Rattle.a429_link.proofs.ObserverMore.{allowed_push}
 use Rattle.a429_cert.specs.Explained.{items_of, seen_of}
+use Rattle.a429_cert.proofs.ItemsFacts.{items_push}
 use Rattle.a429_parts.specs.Keeping.{Taken}
 use Rattle.a429_parts.proofs.KeepingFacts.{Came}
 use Rattle.a429_view.specs.declared.blocks.Blocks.{Blocks}
@@ -23,7 +26,7 @@ use Rattle.a429_commands.specs.Blocks.{AreRowsBefore, EndsAllRuns, ShowsAttempts
 use Rattle.a429_commands.specs.Streaming.{AreAllBefore, AreThoseGiven}
 use Rattle.a429_commands.specs.Trace.{BeginsWith}
 use Rattle.a429_commands.proofs.StreamingFacts.{all_before}
-use Rattle.a429_commands.proofs.TraceLines.{allowed_push, begins_with, items_push, none_begins, observer_again}
+use Rattle.a429_commands.proofs.TraceLines.{begins_with, none_begins}
 
 -- what is known after some entries: their blocks, and that each is allowed
 pub record Blocked (p : Contents) (b : Blocks) (es : List Entry) : Type 0 where

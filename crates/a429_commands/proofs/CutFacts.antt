@@ -13,6 +13,7 @@ use Rattle.a429_record.specs.Rows.{Stops}
 use Rattle.a429_parts.specs.Keeping.{BeginsWith, Taken, with_entries}
 use Rattle.a429_parts.specs.Parts.{GainsAll, GainsList, GainsParts, IsSame, PutParts, joined, list_text, numbered, with_list}
 use Rattle.a429_parts.specs.Parting.{CannotGoOn, CutsAll, CutsUntil, outputs}
+use Rattle.a429_parts.proofs.PartsFacts.{gains_same}
 use Rattle.a429_commands.specs.declared.fault.RunFault.{RunFault}
 use Rattle.a429_commands.specs.Ends as Out
 use Rattle.a429_commands.specs.Output.{Output}
@@ -151,12 +152,6 @@ gains_all (Some s) None c parts text is h g = absurd h
 gains_all (Some s) (Some t) None parts text is h g = absurd g
 gains_all (Some s) (Some t) (Some u) parts text is h g =
     g ∙ ap (with_list text) h ∙ ap (λ (l : List ℕ). with_list l (record { parts = s.parts ++ numbered 1 parts; list = s.list })) is
-
-gains_same : (a b c : Option PutParts) (parts : List (List Entry)) → GainsParts a b parts → IsSame b c → GainsParts a c parts
-gains_same None b c parts h g = tt
-gains_same (Some s) None c parts h g = absurd h
-gains_same (Some s) (Some t) None parts h g = absurd g
-gains_same (Some s) (Some t) (Some u) parts h g = g ∙ h
 
 module _ (t : Task) (p : Contents) (o : Placed) (c : Option PutParts) (failed : Bool) (list : List ℕ) (cut : CutsInto t o p list) where
   pub puts_all : GainsList o.new c list → PutsAllParts t (record { old = o.old; new = c; failed = failed }) p list

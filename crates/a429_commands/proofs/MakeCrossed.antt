@@ -9,9 +9,9 @@ use Rattle.a429_ldu.specs.Cut.{room}
 use Rattle.a429_ldu.proofs.CutFacts.{units}
 use Rattle.a429_link.specs.Clean.{clean_run_steps, cut_fault, first_refused}
 use Rattle.a429_link.proofs.CleanFiles.{EachCut, files_cross}
+use Rattle.a429_explain.proofs.WithoutLoss.{kept}
 use Rattle.a429_commands.specs.Profile.{IsProfileOf}
 use Rattle.a429_commands.specs.Make.{words_made, AreByteLists, AreDelivered}
-use Rattle.a429_commands.proofs.MakeWords.{refused_split}
 
 -- what a text says is a profile
 pub is_profile : (bytes : List ℕ) (p : Contents) → IsProfileOf bytes p → IsProfile p
@@ -40,7 +40,7 @@ pub each_cut : (p : Contents)
     → IsProfile p → (k : ℕ) (files : List (List ℕ)) → AreByteLists files → first_refused 255 k files ≡ None → EachCut p 255 files
 each_cut p is k [] small none = tt
 each_cut p is k (bytes ∷ files) small none =
-    let parts = refused_split k (cut_fault 255 bytes) (first_refused 255 (k + 1) files) none in
+    let parts = kept k (cut_fault 255 bytes) (first_refused 255 (k + 1) files) none in
     let r = has_room bytes parts.0 in
     (units p is 255 bytes (omega arith) (omega arith) small.0 r.some r.most, each_cut p is (k + 1) files small.1 parts.1)
 

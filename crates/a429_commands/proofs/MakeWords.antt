@@ -1,13 +1,11 @@
 -- The words that files make, file after file.
-use Rattle.std.proofs.Common.{◌≡◌, ℕ, zero, suc, ◌+◌, ◌%◌, ◌<◌, ◌≤◌, Vec, Global, List, [], ◌∷◌, ◌++◌, map, length, take, drop, get_or, Option, Some, None, refl, sym, ap, ◌∙◌, arith, append_assoc, append-nil, length-append}
+use Rattle.std.proofs.Common.{◌≡◌, ℕ, zero, suc, ◌+◌, ◌%◌, ◌<◌, ◌≤◌, Vec, Global, List, [], ◌∷◌, ◌++◌, map, length, take, drop, get_or, None, refl, sym, ap, ◌∙◌, arith, append_assoc, append-nil, length-append}
 use Rattle.std.specs.List.{flat_map}
 use Rattle.std.proofs.Math.Seq.{take-append_seam}
 use Rattle.std.proofs.lemmas.List.{length-take-le, drop_all}
 use Rattle.a429_profile.specs.Profile.{Contents, IsProfile}
 use Rattle.a429_ldu.specs.Cut.{units_of}
 use Rattle.a429_ldu.proofs.CutFacts.{units_last}
-use Rattle.a429_ldu.specs.declared.fault.CutFault.{CutFault}
-use Rattle.a429_link.specs.declared.fault.CleanFault.{CleanFault}
 use Rattle.a429_link.specs.declared.seen.Seen.{Seen}
 use Rattle.a429_link.specs.Clean.{clean_blocks, clean_words, units_of_files, cut_fault, refused_or, first_refused}
 use Rattle.a429_link.proofs.CleanFiles.{clean_append, file_at, past_files}
@@ -16,6 +14,7 @@ use Rattle.a429_commands.specs.Make.{timed, words_made}
 use Rattle.a429_commands.proofs.MakeCounted.{next_file_at}
 use Rattle.a429_commands.proofs.MakeTimed.{lines-append}
 use Rattle.a429_link.specs.Number.{first_number}
+use Rattle.a429_explain.proofs.WithoutLoss.{kept}
 
 -- the words so far are so many of all words, and with those of the files still to come they are all
 pub record AreMade (p : Contents) (files : List (List ℕ)) (k number n : ℕ) : Type 0 where
@@ -97,17 +96,12 @@ all_words p files k number n l h = made_end p (map (λ f. f.items) files) k numb
 
 -- ---- none is refused
 
-pub refused_split : (k : ℕ) (one : Option CutFault) (later : Option CleanFault)
-    → refused_or k one later ≡ None → (one ≡ None) × (later ≡ None)
-refused_split k None later e = (refl, e)
-refused_split k (Some f) later e = absurd (cc)
-
 fine_at : (j : ℕ) (files : List (List ℕ)) (k : ℕ) (f : List ℕ)
     → k < length files → f ≡ get_or files k f → first_refused 255 j files ≡ None → cut_fault 255 f ≡ None
 fine_at j [] k f l ef h = absurd (omega arith)
-fine_at j (g ∷ files) zero f l ef h = ap (cut_fault 255) ef ∙ (refused_split j (cut_fault 255 g) (first_refused 255 (j + 1) files) h).0
+fine_at j (g ∷ files) zero f l ef h = ap (cut_fault 255) ef ∙ (kept j (cut_fault 255 g) (first_refused 255 (j + 1) files) h).0
 fine_at j (g ∷ files) (suc k) f l ef h =
-    fine_at (j + 1) files k f (omega arith) ef (refused_split j (cut_fault 255 g) (first_refused 255 (j + 1) files) h).1
+    fine_at (j + 1) files k f (omega arith) ef (kept j (cut_fault 255 g) (first_refused 255 (j + 1) files) h).1
 
 -- nor is a file alone, as a body meets it
 pub fine_alone : (files : List (Vec ℕ Global)) (k : ℕ) (file : Vec ℕ Global) (one : List (Vec ℕ Global))

@@ -2,7 +2,6 @@
 use Rattle.std.proofs.Common.{◌≡◌, ◌∙◌, ◌≤◌, ◌<◌, ◌^◌, ◌+◌, ◌++◌, ◌∷◌, inl, inr, ℕ, zero, suc, List, [], length, take, drop, get_or, refl, sym, ap, subst, arith, append_assoc, append-nil}
 use Rattle.std.specs.Prelude.{codes}
 use Rattle.std.specs.List.{AllByRecursion}
-use Rattle.std.specs.Char.{digit_value}
 use Rattle.std.specs.Fmt.{decimal}
 use Rattle.std.specs.Str.Parse.{digits_value, AllDigits}
 use Rattle.std.proofs.lemmas.Fmt.{decimal_is_IsNumeral, decimal_injective, decimal-digits_value, decimal_nonempty, decimal_digit, first_decimal, length-decimal-le}
@@ -224,12 +223,7 @@ no_sizes text counts rest number from h none refuses all l =
     by [] e f = refuses (subst ArePartSizes (e ∙ append-nil counts) l.sizes)
     by (n ∷ more) e f = absurd (cc f)
 
--- ---- digits
-
-pub digit_here : (ds : List ℕ) (i : ℕ) → AllDigits 10 ds → i < length ds → digit_value (get_or ds i 0) < 10
-digit_here [] i p h = absurd (omega (arith, h))
-digit_here (d ∷ ds) zero p h = p.0
-digit_here (d ∷ ds) (suc i) p h = digit_here ds i p.1 (omega (arith, h))
+-- ---- what is left
 
 pub shorter : (rest after : List ℕ) (k from n : ℕ) → rest ≡ part_line k from n ++ after → length after < length rest
 shorter rest after k from n e =
@@ -237,7 +231,3 @@ shorter rest after k from n e =
     ap (λ (t : List ℕ). length t) e ∙ length-append (part_line k from n) after in
     let some : 1 ≤ length (part_line k from n) = omega arith in
     omega (arith, all, some)
-
-pub none_there : (xs : List ℕ) → length xs ≡ 0 → xs ≡ []
-none_there [] e = refl
-none_there (x ∷ xs) e = absurd (omega (arith, e))

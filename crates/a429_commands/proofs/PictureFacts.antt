@@ -1,12 +1,12 @@
 -- What a sketch that listened to a certificate holds, and why there is no picture.
-use Rattle.std.proofs.Common.{◌≡◌, ◌≤◌, ◌<◌, inl, inr, ℕ, List, Bool, true, false, nat_lt, Option, Some, None, Result, Ok, Err, Vec, Global, refl, ap}
+use Rattle.std.proofs.Common.{◌≡◌, ◌≤◌, ◌<◌, inl, inr, ℕ, List, Bool, true, false, nat_lt, None, Result, Ok, Err, Vec, Global, refl, ap}
 use Rattle.std.specs.Prelude.{IsOkAnd, IsTrue, ◌↔◌, ⊤}
 use Rattle.std.specs.Result.{ForOk}
 use Rattle.std.specs.Str.{IsUtf8}
 use Rattle.std.proofs.lemmas.Bool.{ltb-true, ltb-false}
 use Rattle.a429_profile.specs.Profile.{Contents}
 use Rattle.a429_record.specs.Recording.{Recording}
-use Rattle.a429_cert.specs.StreamExplained.{compared, Extracts, HearsRun, WhereBothKnown}
+use Rattle.a429_cert.specs.StreamExplained.{compared, Extracts, HearsRun}
 use Rattle.a429_cert.specs.Report.{listening, IsHeard, reports_of_run}
 use Rattle.a429_view.specs.declared.mark.Span.{Span}
 use Rattle.a429_view.specs.declared.sketch.Sketch.{Sketch}
@@ -24,12 +24,7 @@ use Rattle.a429_commands.proofs.FaultFacts.{comes_by}
 use Rattle.a429_commands.proofs.VerdictFacts.{rejects}
 use Rattle.a429_commands.specs.Picture.{ARun, DrawsRun, IsPicture, IsPictureFault, IsTooLongRun, drawing_text, of_picture, picture_causes}
 use Rattle.a429_cert.specs.Change.{change}
-
-where_both_known : (known : Option (List ℕ)) (rec : Option Recording) (A B : List ℕ → Recording → Type 0)
-    → ((text : List ℕ) (r : Recording) → A text r → B text r) → WhereBothKnown known rec A → WhereBothKnown known rec B
-where_both_known None rec A B f a = tt
-where_both_known (Some text) None A B f a = tt
-where_both_known (Some text) (Some r) A B f a = f text r a
+use Rattle.a429_cert.proofs.StreamReplay.{both_known_map}
 
 -- the run that was heard
 abbrev heard_run : {p : Contents} {old new : Sketch} {text : List ℕ} {r : Recording}
@@ -60,7 +55,7 @@ drawn i span old new p files is here b h few =
         files = files;
         yes = here;
         so =
-            where_both_known i.certificate i.recording (IsHeard (listening Hears old new) p)
+            both_known_map i.certificate i.recording (IsHeard (listening Hears old new) p)
             (DrawsRun p span (svg_text p.codes new.rows.items)) (λ t r g. draws p span old new t r b few g) h;
       },
     )
@@ -77,7 +72,7 @@ too_long i p span Failed old new files is here b h e =
       files = files;
       yes = here;
       so =
-          where_both_known i.certificate i.recording (IsHeard (listening Hears old new) p) (IsTooLongRun p span)
+          both_known_map i.certificate i.recording (IsHeard (listening Hears old new) p) (IsTooLongRun p span)
           (λ text r g. record { run = heard_run g; many = (heard_of p span old new text r b g).many e }) h;
     }
 

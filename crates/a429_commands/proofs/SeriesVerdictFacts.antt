@@ -4,6 +4,7 @@ use Rattle.std.specs.Prelude.{IfSome, IfOk, IfErr, OnOk, Result, Ok, Err}
 use Rattle.a429_commands.specs.declared.engines.series.SeriesAnswer.{SeriesAnswer}
 use Rattle.a429_commands.specs.declared.engines.series.SeriesAnswer.TheVariants as answer
 use Rattle.std.proofs.lemmas.List.{map-append, take_all, take_more}
+use Rattle.std.proofs.lemmas.Option.{same_Some}
 use Rattle.a429_profile.specs.Profile.{Contents}
 use Rattle.a429_record.specs.declared.fault.ReadFault.TheVariants as read
 use Rattle.a429_record.specs.Recording.{Recording}
@@ -117,9 +118,6 @@ slice_here [] i h = absurd (omega (arith, h))
 slice_here (x ∷ xs) zero h = refl
 slice_here (x ∷ xs) (suc i) h = slice_here xs i (omega (arith, h))
 
-some_is : {x y : ℕ} → Some x ≡ Some y → x ≡ y
-some_is e = cc e
-
 module _ (p : Contents) (part : ℕ → Option Part) (counts : List ℕ) where
   -- so many parts fit
   abbrev pub SoFar : ℕ → SeriesValue → Type 0
@@ -174,7 +172,7 @@ module _ (p : Contents) (part : ℕ → Option Part) (counts : List ℕ) where
       → IsMiscounted p part counts (place + 1) n
   miscounted_at place i n s new e same inside other h j =
       let next : place + 1 ≡ suc i = omega (arith, e) in
-      let here = miscounted i s new inside (λ g. other (same ∙ some_is (sym g ∙ slice_here counts i inside))) h j in
+      let here = miscounted i s new inside (λ g. other (same ∙ same_Some _ _ (sym g ∙ slice_here counts i inside))) h j in
       subst (λ (k : ℕ). IsMiscounted p part counts k n) (sym next) (subst (λ (m : ℕ). IsMiscounted p part counts (suc i) m) (sym same) here)
 
   -- the answer where a part is refused

@@ -1,20 +1,18 @@
 -- The trace of entries that come one by one.
-use Rattle.std.proofs.Common.{◌≡◌, ℕ, suc, ◌+◌, ◌-◌, ◌^◌, ◌<◌, min, List, [], ◌∷◌, ◌++◌, length, length-append, append_assoc, append-nil, take, Option, Some, None, Result, Ok, Err, IfErr, IfSome, slice_get, refl, sym, ap, ◌∙◌, subst, inl, inr, arith}
+use Rattle.std.proofs.Common.{◌≡◌, ℕ, suc, ◌+◌, ◌^◌, ◌<◌, List, [], ◌∷◌, ◌++◌, length, length-append, append_assoc, append-nil, take, Option, Some, None, IfSome, refl, sym, ap, ◌∙◌, subst, inl, inr, arith}
+use Rattle.std.proofs.Math.Seq.{take-append_seam}
 use Rattle.a429_profile.specs.Profile.{Contents, IsProfile}
 use Rattle.a429_ldu.specs.declared.forms.Form.{Form}
 use Rattle.a429_ldu.specs.declared.sight.Sight.{Sight}
 use Rattle.a429_ldu.specs.Form.{form_of}
 use Rattle.a429_ldu.specs.Sight.{sight_in, form_in}
-use Rattle.a429_ldu.proofs.FormFree.{free_none}
 use Rattle.a429_link.specs.declared.seen.Seen.{Seen}
 use Rattle.a429_link.specs.declared.doing.Crossing.{Crossing}
-use Rattle.a429_link.specs.Sink.{Number, Sink, SinkPhase}
-use Rattle.a429_link.specs.Observer.{Allows, AllowsForm, AllowsNext, AreAllowed, IsRefused, Observer, at_first, observed, sees}
+use Rattle.a429_link.specs.Observer.{Allows, AllowsForm, AllowsNext, AreAllowed, IsRefused, Observer, at_first, observed}
 use Rattle.a429_link.specs.Run.{BeginsARun}
-use Rattle.a429_link.specs.Trace.{files_of, sink_after, sink_at_first}
+use Rattle.a429_link.specs.Trace.{files_of}
 use Rattle.a429_link.specs.Implied.{Implied, implied, implied_at_first, implies, observer_of, sizes_of}
-use Rattle.a429_link.proofs.ImpliedFacts.{file_crosses, files_stay_without, implied_push, implied_sink}
-use Rattle.a429_link.proofs.TraceFiles.{observed_sink}
+use Rattle.a429_link.proofs.ImpliedFacts.{file_crosses, files_stay_without, implied_push, observer_again}
 use Rattle.a429_record.specs.declared.entry.Entry.{Entry}
 use Rattle.a429_cert.specs.Explained.{items_of, seen_of}
 use Rattle.a429_explain.specs.declared.verdict.Reason.{Reason}
@@ -39,12 +37,13 @@ use Rattle.a429_explain.specs.declared.verdict.Verdict.TheVariants as verdict
 use Rattle.a429_word.specs.declared.sheet.Sheet.{Sheet}
 use Rattle.a429_word.specs.Sheet.{Says, SaysSome}
 use Rattle.a429_word.proofs.SheetFacts.{◌▹◌}
+use Rattle.a429_word.proofs.CountFacts.{one_more}
+use Rattle.a429_word.proofs.ListFacts.{last_item, take_with_last}
+use Rattle.a429_ldu.proofs.FormFree.{free_none}
+use Rattle.a429_link.proofs.ObserverMore.{allowed_push}
+use Rattle.a429_cert.proofs.ItemsFacts.{items_push}
 
 -- ---- one more entry
-
-pub items_push : (es : List Entry) (e : Entry) → items_of (es ++ e ∷ []) ≡ items_of es ++ seen_of e ∷ []
-items_push [] e = refl
-items_push (x ∷ es) e = ap (λ (is : List Seen). seen_of x ∷ is) (items_push es e)
 
 lines_from : (p : Contents) (n : ℕ) (k : Implied) (es : List Entry) (e : Entry)
     → lines_of p n k (es ++ e ∷ []) ≡ lines_of p n k es ++ line_of p (n + length es) (implied p (items_of es) k) e
@@ -64,24 +63,6 @@ pub lines_push : (p : Contents) (es : List Entry) (e : Entry)
 lines_push p es e =
     let same : 0 + length es ≡ length es = omega arith in lines_from p 0 implied_at_first es e
     ∙ ap (λ m. lines_of p 0 implied_at_first es ++ line_of p m (implied p (items_of es) implied_at_first) e) same
-
-pub allowed_push : (p : Contents) (items : List Seen) (i : Seen) (o : Observer)
-    → AreAllowed p o items → Allows p (observed p items o) i → AreAllowed p o (items ++ i ∷ [])
-allowed_push p [] i o h a = (a, tt)
-allowed_push p (x ∷ items) i o h a = (h.0, allowed_push p items i (sees p x o) h.1 a)
-
--- what is implied has the observer of the same words
-pub observer_again : (p : Contents) (items : List Seen) → observer_of (implied p items implied_at_first) ≡ observed p items at_first
-observer_again p items =
-    let o = observed p items at_first in
-    let k = sink_after p items sink_at_first in
-    let last : k.last ≡ o.last = sym (ap (λ (s : Sink). s.last) (observed_sink p items)) in
-    let count : k.count ≡ o.count = sym (ap (λ (s : Sink). s.count) (observed_sink p items)) in
-    let phase : k.phase ≡ o.phase = sym (ap (λ (s : Sink). s.phase) (observed_sink p items)) in
-    ap observer_of (implied_sink p items)
-    ∙ ap (λ (l : Option Number). record { last = l; count = k.count; phase = k.phase; begun = o.begun; parts = o.parts }) last
-    ∙ ap (λ (n : ℕ). record { last = o.last; count = n; phase = k.phase; begun = o.begun; parts = o.parts }) count
-    ∙ ap (λ (f : SinkPhase). record { last = o.last; count = o.count; phase = f; begun = o.begun; parts = o.parts }) phase
 
 -- what is known after some entries: their trace, that each is allowed, and that they are few
 pub record Traced (p : Contents) (t : Trace) (es : List Entry) : Type 0 where
@@ -104,9 +85,6 @@ files_more : (p : Contents) (items : List Seen) (i : Seen) (x : Option Form)
 files_more p items i None e a = ap sizes_of (files_stay_without p items i e) ∙ sym (append-nil (sizes_of (files_of p items)))
 files_more p items i (Some x) e (inl free) = absurd (cc (sym (free_none p.codes i.bus i.word free) ∙ e))
 files_more p items i (Some x) e (inr a) = file_crosses p items i x e (subst (AllowsForm (observed p items at_first) i.bus) e a)
-
-one_more : (new old n : ℕ) → new ≡ min (old + 1) (2 ^ 64 - 1) → old ≡ n → n + 1 < 2 ^ 64 → new ≡ n + 1
-one_more new old n e is few = grind arith
 
 pub traced_more : (p : Contents) (old new : Trace) (es : List Entry) (e : Entry)
     → GoesOn p e old new → length es + 1 < 2 ^ 64 → Traced p old es → Traced p new (es ++ e ∷ [])
@@ -131,27 +109,15 @@ traced_more p old new es e goes few h =
 
 -- ---- the first word that no run records
 
-take_before : (items : List Seen) (i : Seen) → take (length items) (items ++ i ∷ []) ≡ items
-take_before [] i = refl
-take_before (x ∷ items) i = ap (λ (is : List Seen). x ∷ is) (take_before items i)
-
-take_with : (items : List Seen) (i : Seen) → take (suc (length items)) (items ++ i ∷ []) ≡ items ++ i ∷ []
-take_with [] i = refl
-take_with (x ∷ items) i = ap (λ (is : List Seen). x ∷ is) (take_with items i)
-
-there : (items : List Seen) (i : Seen) → slice_get (items ++ i ∷ []) (length items) ≡ Some i
-there [] i = refl
-there (x ∷ items) i = there items i
-
 pub none_begins : (p : Contents) (items : List Seen) (i : Seen)
     → ((n : ℕ) → IsRefused p (items ++ i ∷ []) n → BeginsARun p (take (suc n) (items ++ i ∷ [])) → ⊥)
     → (Allows p (observed p items at_first) i → ⊥) → BeginsARun p (items ++ i ∷ []) → ⊥
 none_begins p items i law never begins =
     law (length items)
     (λ a.
-    never (subst (λ (is : List Seen). Allows p (observed p is at_first) i) (take_before items i)
-    (subst (AllowsNext p (observed p (take (length items) (items ++ i ∷ [])) at_first)) (there items i) a)))
-    (subst (BeginsARun p) (sym (take_with items i)) begins)
+    never (subst (λ (is : List Seen). Allows p (observed p is at_first) i) (take-append_seam items (i ∷ []))
+    (subst (AllowsNext p (observed p (take (length items) (items ++ i ∷ [])) at_first)) (last_item items i) a)))
+    (subst (BeginsARun p) (sym (take_with_last items i)) begins)
 
 -- why no run records it
 pub refused_after : (p : Contents) → IsProfile p → (t : Trace) (es : List Entry) (e : Entry) (s : Sight) (r : Reason) → Traced p t es
@@ -213,12 +179,6 @@ all_given run.NoPlace given n h = h
 all_given run.OldFiles given n h = h
 all_given (run.Map f) given n h = h
 all_given (run.Export f) given n h = h
-
--- ---- once it is written
-
-pub if_err_map : {T E : Type 0} {P Q : E → Type 0} (r : Result T E) → IfErr r P → ((e : E) → P e → Q e) → IfErr r Q
-if_err_map (Ok x) h f = tt
-if_err_map (Err e) h f = f e h
 
 -- ---- what a sheet says
 

@@ -3,7 +3,7 @@ use Rattle.std.proofs.Common.{◌≡◌, ◌||◌, ◌≤◌, ◌++◌, ◌∙�
 use Rattle.std.specs.Prelude.{IfOk, IfErr, OnOk, OnErr}
 use Rattle.std.specs.Io.KnownBytes.{append_known, Appends, Keeps}
 use Rattle.std.proofs.KnownBytes.{Appends-nil, Appends-trans}
-use Rattle.std.proofs.lemmas.Bool.{cases_Bool}
+use Rattle.std.proofs.lemmas.Bool.{cases_Bool, or_parts}
 use Rattle.std.proofs.lemmas.List.{append-nil, append_cancel_left}
 use Rattle.std.proofs.Math.Seq.{take-append_seam}
 use Rattle.a429_word.specs.declared.tally.Tally.{Tally}
@@ -31,7 +31,7 @@ use Rattle.a429_commands.specs.declared.fault.RunFault.{RunFault}
 use Rattle.a429_commands.specs.declared.fault.RunFault.TheVariants as run
 use Rattle.a429_profile.specs.declared.fault.ProfileFault.{ProfileFault}
 use Rattle.a429_commands.specs.Units.{of_units, last_text, AreFresh, AreEndedBefore, AreUnitsOfRun, EndsInPart, EndsUnits, HaveEnded, IsFrontOf, IsLeft, LeavesUnits, ReportsUnits}
-use Rattle.a429_commands.proofs.VerdictFacts.{judged_answer, neither, not_either}
+use Rattle.a429_commands.proofs.VerdictFacts.{judged_answer, not_either}
 
 -- an empty page holds nothing back
 from_empty : (a b : Option (List ℕ)) (text : List ℕ) → Appends (append_known a []) b text → Appends a b text
@@ -155,11 +155,6 @@ kept_by_none : (a b : Option (List ℕ)) → Appends a b [] → Keeps a b
 kept_by_none None b h = tt
 kept_by_none (Some x) None h = h
 kept_by_none (Some x) (Some y) h = h ∙ append-nil x
-
--- what holds, holds at an error
-pub at_err : {T E P : Type 0} (r : Result T E) → P → OnErr r P
-at_err (Ok x) h = tt
-at_err (Err e) h = h
 
 -- of what waited, all of which has gone out, and of a text after it
 pub waited_and : {W : Type 0} (contents : W → Option (List ℕ)) (old waited : UnitRows W) (out : Tally W) (text : List ℕ)
@@ -300,17 +295,17 @@ pub ends_judged : {W : Type 0} (contents : W → Option (List ℕ)) (i : Input) 
 ends_judged contents i old mid new j rec cert (Ok status) fresh judged heard all tries ended works err part =
     let t = tried contents j.profile old mid tries.0 tries.1 in
     let said =
-    reported contents i old mid new j fresh judged heard (neither (has_failed mid.out) (rec || cert) all).0 t j.answer status refl ended in
+    reported contents i old mid new j fresh judged heard (or_parts (has_failed mid.out) (rec || cert) all).0 t j.answer status refl ended in
     answered status said.text refl (said.reports, λ failed. none failed) works said.puts
   where
     none : (has_failed new.out || (rec || cert)) ≡ true → ⊥
-    none h = not_either (has_failed new.out) (rec || cert) works (neither (has_failed mid.out) (rec || cert) all).1 h
+    none h = not_either (has_failed new.out) (rec || cert) works (or_parts (has_failed mid.out) (rec || cert) all).1 h
 ends_judged contents i old mid new j rec cert (Err e) fresh judged heard all tries ended works err part =
     let t = tried contents j.profile old mid tries.0 tries.1 in
     subst (λ (f : RunFault). Ends (output contents old.out new.out) (of_units i ((has_failed new.out || (rec || cert)) ≡ true)) (Err f))
     (sym err.0)
     (ends_broken contents i ((has_failed new.out || (rec || cert)) ≡ true) old mid new j.answer fresh
-    (neither (has_failed mid.out) (rec || cert) all).0 t (judged_answer i no_shelf j.profile j.answer judged.0 judged.1) err.1 part)
+    (or_parts (has_failed mid.out) (rec || cert) all).0 t (judged_answer i no_shelf j.profile j.answer judged.0 judged.1) err.1 part)
 
 -- ---- the rows and their page
 

@@ -1,10 +1,10 @@
 -- What is read of a certificate that is upgraded, and how far it was written.
 use Rattle.std.proofs.Common.{◌≡◌, ◌∙◌, ◌+◌, ℕ, List, [], ◌++◌, length, take, drop, Bool, true, false, Option, Some, None, if◌then◌else◌, IfSome, refl, sym, ap, subst, arith, length-append}
-use Rattle.std.proofs.Math.Seq.{take-append_seam, drop-append_seam, take-append-add, take-length}
-use Rattle.std.proofs.lemmas.List.{take-append-le}
+use Rattle.std.proofs.Math.Seq.{take-append_seam, drop-append_seam, take-append-add}
 use Rattle.std.proofs.KnownBytes.{Appends-trans}
 use Rattle.std.specs.Io.KnownBytes.{Appends, Consumes}
 use Rattle.a429_word.specs.Tally.{AppendsPrefix}
+use Rattle.a429_word.proofs.PageFacts.{AppendsPrefix-longer}
 use Rattle.a429_commands.specs.Upgrade.{version_two_line, is_version_line, upgraded, OfKnown, TakesVersion}
 
 -- ---- a line of 16 bytes, and what is behind it
@@ -70,13 +70,6 @@ of_none (Some xs) new false Q _ none so = (xs, refl, so xs none)
 
 -- ---- a front that was written
 
-pub front_whole : (a b : Option (List ℕ)) (xs : List ℕ) → Appends a b xs → AppendsPrefix a b xs
-front_whole a b xs grown = (length xs, omega arith, subst (Appends a b) (sym (take-length xs)) grown)
-
-pub front_within : (a b : Option (List ℕ)) (xs more : List ℕ) → AppendsPrefix a b xs → AppendsPrefix a b (xs ++ more)
-front_within a b xs more (n, few, grown) =
-    (n, omega (arith, few, length-append xs more), subst (Appends a b) (sym (take-append-le n xs more few)) grown)
-
 pub front_after : (a b c : Option (List ℕ)) (xs ys : List ℕ) → Appends a b xs → AppendsPrefix b c ys → AppendsPrefix a c (xs ++ ys)
 front_after a b c xs ys first (n, few, grown) = (
   length xs + n,
@@ -88,4 +81,4 @@ front_after a b c xs ys first (n, few, grown) = (
 pub front_copied : (old new a b : Option (List ℕ)) (moved : List ℕ)
     → Consumes old new moved → AppendsPrefix a b moved → OfKnown old (AppendsPrefix a b)
 front_copied old new a b moved read front =
-    let all = unread_from old new moved read in (moved ++ all.0, all.1, front_within a b moved all.0 front)
+    let all = unread_from old new moved read in (moved ++ all.0, all.1, AppendsPrefix-longer a b moved all.0 front)

@@ -1,6 +1,7 @@
 -- What is answered of a certificate, and what a command reports where there is no verdict.
 use Rattle.std.proofs.Common.{◌≡◌, ◌||◌, ◌∙◌, inl, inr, ℕ, Bool, true, false, ◌≢◌, List, Vec, Global, Option, Some, None, Result, Ok, Err, IfOk, IfErr, refl, sym, ap, subst}
 use Rattle.std.specs.Result.{OnOk}
+use Rattle.std.proofs.lemmas.Bool.{or_left, or_right}
 use Rattle.a429_cert.specs.Stream.{OneFailed}
 use Rattle.a429_profile.specs.Profile.{Contents}
 use Rattle.a429_record.specs.declared.fault.ReadFault.{ReadFault}
@@ -75,24 +76,9 @@ judged_bears i shelf Failed j is works = record {
 
 -- ---- what has failed
 
-pub none_failed : (failed : Bool) → failed ≡ false → failed ≡ true → ⊥
-none_failed failed works h = cc (works, h)
-
-pub neither : (a b : Bool) → (a || b) ≡ false → (a ≡ false) × (b ≡ false)
-neither false b h = (refl, h)
-neither true b h = absurd (cc h)
-
 pub not_either : (a b : Bool) → a ≡ false → b ≡ false → (a || b) ≡ true → ⊥
 not_either false b g h e = cc (h, e)
 not_either true b g h e = cc g
-
-or_left : (a b : Bool) → a ≡ true → (a || b) ≡ true
-or_left false b h = absurd (cc h)
-or_left true b h = refl
-
-or_right : (a b : Bool) → b ≡ true → (a || b) ≡ true
-or_right false b h = h
-or_right true b h = refl
 
 -- what has failed where a stream reports a device
 pub one_failed : (rec cert shelf listener : Bool) → OneFailed cert shelf listener → (listener || (shelf || (rec || cert))) ≡ true

@@ -24,7 +24,7 @@ use Rattle.a429_link.proofs.Message.{Cts, Eot, IsRead, Message, Part, Sot, messa
 use Rattle.a429_link.proofs.Subsequence.{sub_length}
 use Rattle.a429_link.proofs.SourceBlock.{block_length}
 use Rattle.a429_link.proofs.SinkShelves.{Past}
-use Rattle.a429_link.proofs.StateConfigs.{Config, asked, idle, sending, whole}
+use Rattle.a429_link.proofs.StateConfigs.{Config, idle, sending}
 use Rattle.a429_link.proofs.StateHolds.{Current, HoldsAt, owed_form, sends, start_holds, step_holds}
 use Rattle.a429_link.proofs.SinkFromTrace.{Alike, IsStill, sees, step_alike}
 use Rattle.a429_link.proofs.LatestAttempt.{attempt, attempt_from, joins, latest_count, latest_words}

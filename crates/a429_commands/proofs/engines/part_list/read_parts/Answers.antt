@@ -1,6 +1,7 @@
 use Rattle.std.proofs.Common.{◌≡◌, ◌<◌, ◌+◌, ◌++◌, ◌∷◌, [], length, refl, rules, sym, subst, arith}
+use Rattle.std.proofs.lemmas.List.{nil_from_length}
 use Rattle.a429_commands.specs.PartList.{ArePartSizes}
-use Rattle.a429_commands.proofs.PartListFacts.{IsReadTo, no_line, no_sizes, none_there, read_on, shorter, too_many}
+use Rattle.a429_commands.proofs.PartListFacts.{IsReadTo, no_line, no_sizes, read_on, shorter, too_many}
 use Rattle.a429_commands.proofs.engines.part_list.read_parts.Goals as goal
 
 pub returns-in_default-clause-none : goal.returns-in_default-clause-none
@@ -34,6 +35,6 @@ lines-preserved c =
 pub returns-else-are_sizes-clause-none : goal.returns-else-are_sizes-clause-none
 returns-else-are_sizes-clause-none c = λ e all l.
     let len : length c.lines.rest.now ≡ 0 = search rules in
-    let none = none_there c.lines.rest.now len in
+    let none = nil_from_length c.lines.rest.now len in
     no_sizes c.args.text.now c.lines.counts.items c.lines.rest.now c.lines.number c.lines.from c.lines.invariant.read none
     (λ sizes. absurd (cc (c.are_sizes.ensures.1 (subst ArePartSizes (sym c.as_slice.ensures.value) sizes), c.if-are_sizes.false))) all l

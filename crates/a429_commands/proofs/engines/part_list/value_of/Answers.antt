@@ -4,7 +4,8 @@ use Rattle.std.proofs.lemmas.Int.Digits.{digits_value_more, digits_more}
 use Rattle.std.proofs.lemmas.List.{length-take}
 use Rattle.std.proofs.lemmas.Str.Parse.{digits_value_short}
 use Rattle.a429_record.proofs.RowDigits.{room}
-use Rattle.a429_commands.proofs.PartListFacts.{digit_here, own}
+use Rattle.a429_import.proofs.TimeFacts.{digit_in}
+use Rattle.a429_commands.proofs.PartListFacts.{own}
 use Rattle.a429_commands.proofs.engines.part_list.value_of.Goals as goal
 
 pub overflow_mul-number : goal.overflow_mul-number
@@ -16,12 +17,12 @@ overflow_mul-number c =
     )
 
 pub digit_of-requires : goal.digit_of-requires
-digit_of-requires c = digit_here c.args.digits.now c.digits.len c.requires.digits c.digits-test.true
+digit_of-requires c = digit_in c.args.digits.now c.digits.len c.digits-test.true c.requires.digits
 
 pub overflow_add-number : goal.overflow_add-number
 overflow_add-number c =
     let v = c.digits.invariant in
-    let small = digit_here c.args.digits.now c.digits.len c.requires.digits c.digits-test.true in
+    let small = digit_in c.args.digits.now c.digits.len c.digits-test.true c.requires.digits in
     omega (
       arith,
       room c.digits.len c.digits.number c.args.digits.now v.inside (omega (arith, c.digits-test.true, c.requires.few)) v.number v.all,
@@ -35,7 +36,7 @@ digits-preserved c =
     let i = c.digits.len in
     let ds = c.args.digits.now in
     let inside : i < length ds = c.digits-test.true in
-    let small : digit_value (get_or ds i 0) < 10 = digit_here ds i c.requires.digits inside in
+    let small : digit_value (get_or ds i 0) < 10 = digit_in ds i inside c.requires.digits in
     record {
       inside = omega (arith, inside);
       all = digits_more 10 ds i inside v.all small;

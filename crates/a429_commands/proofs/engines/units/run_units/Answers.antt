@@ -1,9 +1,9 @@
 use Rattle.std.proofs.Common.{◌≡◌, ◌||◌, true, sym, subst}
 use Rattle.std.proofs.lemmas.Result.{err_from_is_err_and}
 use Rattle.a429_word.specs.Tally.{has_failed}
+use Rattle.a429_word.proofs.Outcomes.{if_err_map}
 use Rattle.a429_commands.specs.Units.{LeavesUnits}
 use Rattle.a429_commands.specs.Verdict.{input}
-use Rattle.a429_commands.proofs.TraceLines.{if_err_map}
 use Rattle.a429_commands.proofs.UnitsFacts.{ends_judged, ends_until, leaves_units, untouched}
 use Rattle.a429_commands.proofs.engines.units.run_units.Goals as goal
 

@@ -1,13 +1,14 @@
 use Rattle.std.proofs.Common.{◌++◌, take, rules}
 use Rattle.std.proofs.KnownBytes.{Consumes-trans, Appends-trans}
+use Rattle.a429_word.proofs.PageFacts.{AppendsPrefix-whole}
 use Rattle.a429_cert.proofs.Options.{on_err}
-use Rattle.a429_commands.proofs.UpgradeFacts.{front_whole, front_after, front_copied}
+use Rattle.a429_commands.proofs.UpgradeFacts.{front_after, front_copied}
 use Rattle.a429_commands.proofs.engines.upgrade.copy.Goals as goal
 
 pub returns-in_err-n-clause-err : goal.returns-in_err-n-clause-err
 returns-in_err-n-clause-err g c =
     let before = c.pieces.invariant in
-    on_err c.from_residual.result (front_copied _ _ _ _ before.moved before.read (front_whole _ _ before.moved before.written))
+    on_err c.from_residual.result (front_copied _ _ _ _ before.moved before.read (AppendsPrefix-whole _ _ before.moved before.written))
 
 pub pieces-preserved : goal.pieces-preserved
 pieces-preserved g c =

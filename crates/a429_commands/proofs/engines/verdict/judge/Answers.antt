@@ -1,12 +1,13 @@
 use Rattle.std.proofs.Common.{◌||◌, ◌∙◌, inl, inr, refl, sym, arith}
 use Rattle.std.proofs.lemmas.Result.{err_from_is_err_and}
+use Rattle.std.proofs.lemmas.Bool.{or_parts}
 use Rattle.a429_word.specs.Tally.{has_failed}
 use Rattle.a429_cert.specs.BreakOff.{readers, shelved}
 use Rattle.a429_cert.specs.Report.{listening}
 use Rattle.a429_commands.specs.Extract.{progress}
 use Rattle.a429_commands.specs.Verdict.{input, no_shelf}
 use Rattle.a429_commands.proofs.ExtractFacts.{left_by_no_answer, left_by_profile}
-use Rattle.a429_commands.proofs.VerdictFacts.{answered_by, by_no_answer, by_profile, heard_by, heard_until, neither, none_has_failed, none_of_profile, of_a_device, one_failed, reader_failed, unchanged, unheard}
+use Rattle.a429_commands.proofs.VerdictFacts.{answered_by, by_no_answer, by_profile, heard_by, heard_until, none_has_failed, none_of_profile, of_a_device, one_failed, reader_failed, unchanged, unheard}
 use Rattle.a429_commands.proofs.engines.verdict.judge.Goals as goal
 
 pub returns-in_err-profile-clause-err : goal.returns-in_err-profile-clause-err
@@ -105,7 +106,7 @@ returns-in-Err-clause-untried g c =
       no_profile = λ f e. none_of_profile c.any_failed.result stream.result c.in-Err.fault f c.in-Err.ensures.err (cc e);
       device =
           of_a_device c.any_failed.result (g.T.Failing.failed stream.new.listener) stream.result c.in-Err.fault c.in-Err.ensures.err (λ no.
-          (neither (g.T.Failing.failed stream.new.listener)
+          (or_parts (g.T.Failing.failed stream.new.listener)
           (g.S.Failing.failed stream.new.shelf || (stream.new.rec.failed || has_failed stream.new.cert))
           (sym c.any_failed.ensures ∙ no)).0);
     })
