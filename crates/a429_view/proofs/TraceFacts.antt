@@ -1,11 +1,8 @@
 -- Lines of a trace, and what a word is.
-use Rattle.std.proofs.Common.{◌≡◌, ◌≢◌, ℕ, ◌+◌, ◌-◌, ◌^◌, min, Bool, true, false, cond, not, List, [], ◌∷◌, ◌++◌, get_or, append_assoc, append-nil, Option, Some, None, codes, refl, sym, ap, ◌∙◌, subst, inl, inr}
+use Rattle.std.proofs.Common.{◌≡◌, ◌≢◌, ℕ, ◌+◌, ◌-◌, ◌^◌, min, Bool, true, false, cond, not, List, [], ◌++◌, append_assoc, append-nil, Option, Some, None, codes, refl, sym, ap, ◌∙◌, subst, inl, inr}
 use Rattle.std.proofs.lemmas.Bool.{cases_Bool}
 use Rattle.std.specs.Fmt.{decimal}
-use Rattle.a429_word.specs.Bus.{bus_text}
-use Rattle.a429_word.specs.Digits.{hex_text, numeral}
 use Rattle.a429_word.specs.declared.bus.Bus.{Bus}
-use Rattle.a429_word.specs.declared.bus.Bus.TheVariants.{A, B}
 use Rattle.a429_profile.specs.declared.codes.Codes.{Codes}
 use Rattle.a429_profile.specs.Profile.{Contents}
 use Rattle.a429_ldu.specs.declared.forms.Form.{Form}
@@ -109,15 +106,6 @@ allowed_line p n k e x h free is =
     ∙ ap (λ (o : Option Freedom). line_by p n k e o (form_of p.codes e.bus e.word)) free
     ∙ ap (λ (f : Option Form). line_by p n k e None f) is
     ∙ three (line_head n e) (form_text p.codes x) (codes " | " ++ doing_text (does p e.bus e.word x k.sink)) (codes "\n")
-
--- an entry's bus and word after its time, byte by byte
-pub entry_bytes : (w : ℕ) (bus : Bus) (letter hex time : List ℕ) → letter ≡ bus_text bus → hex ≡ hex_text w
-    → time ++ 32 ∷ get_or letter 0 0 ∷ 32 ∷ get_or hex 0 0 ∷ get_or hex 1 0 ∷ get_or hex 2 0 ∷ get_or hex 3 0 ∷ get_or hex 4 0
-    ∷ get_or hex 5 0 ∷ get_or hex 6 0 ∷ get_or hex 7 0 ∷ 32 ∷ []
-    ≡ time ++ 32 ∷ [] ++ bus_text bus ++ 32 ∷ [] ++ hex_text w ++ 32 ∷ []
-unfolding numeral
-entry_bytes w A letter hex time e1 e2 = rw (e1, e2) (simp append_assoc)
-entry_bytes w B letter hex time e1 e2 = rw (e1, e2) (simp append_assoc)
 
 -- ---- one more entry
 

@@ -3,10 +3,12 @@
 ghost use Rattle.std.specs.Prelude.{◌≡◌, ◌≤◌, ◌<◌, ◌-◌, ◌++◌, [], ◌∷◌, length, take};
 ghost use Rattle.std.specs.Fmt.{decimal};
 ghost use Rattle.a429_word.specs.Digits.{numeral};
+ghost use Rattle.a429_word.specs.Sheet.{Says};
 ghost use Rattle.a429_view.specs.Line.{Adds, Fits};
 
-use a429_word::Word;
+use a429_word::{Sheet, Word};
 use itoa::write_digits;
+use std::io::Write;
 use std::marker::Model;
 
 // More bytes than the longest line of a trace has.
@@ -14,6 +16,9 @@ const ROOM: usize = 192;
 
 // The most bytes of a line that `put_short` adds.
 const SHORT: usize = 24;
+
+// The most bytes of a line that `put_on` puts.
+const FEW: usize = 32;
 
 /// The first `len` bytes.
 #[derive(Drop)]
@@ -77,6 +82,15 @@ impl Line {
         ensures { Adds self.old self.new 24 line.now }
     {
         self.put_first(&line.bytes[..SHORT], line.len);
+    }
+
+    /// Puts a line of at most 32 bytes on a sheet.
+    #[inline(always)]
+    pub(crate) fn put_on<W: Write>(&self, sheet: &mut Sheet<'_, W>)
+        requires { length self.now ≤ 32 }
+        ensures { Says W.contents sheet.old sheet.new self.now }
+    {
+        sheet.put_first(&self.bytes[..FEW], self.len);
     }
 
     /// Puts this byte in the place of the last one.

@@ -21,7 +21,7 @@ use a429_cert::seen;
 use a429_ldu::{Form, Sight, form};
 use a429_link::{Crossing, Doing, ImpliedSink};
 use a429_profile::Profile;
-use a429_record::Entry;
+use a429_record::{Entry, EntryText};
 use a429_word::{Bus, Sheet};
 use std::alloc::{AllocError, Global};
 use std::io::Write;
@@ -42,6 +42,8 @@ pub struct Trace {
     sink: ImpliedSink,
     files: Vec<Crossing>,
     entries: EntryCount,
+    // the text of an entry: what it puts does not depend on the entries before
+    text: EntryText,
     // made anew where the sink is in another block
     block: InBlockText,
     // where a line is put together
@@ -57,6 +59,7 @@ impl Trace {
             sink: ImpliedSink::new(alloc),
             files: Vec::new(alloc),
             entries: EntryCount::new(),
+            text: EntryText::new(),
             block: InBlockText::of(0, 0, 0),
             line: Line::new(),
         }
@@ -97,7 +100,7 @@ impl Trace {
             return Ok(());
         }
         match form(profile, entry.bus, entry.word) {
-            Sight::Free => put_free(sheet, profile, &self.entries, entry),
+            Sight::Free => put_free(sheet, profile, &self.entries, &mut self.text, entry),
             Sight::Form(form) => {
                 if !self.sink.allows(entry.bus, &form) {
                     return Err(self.refuse(sheet, profile, entry, Sight::Form(form)));
@@ -109,6 +112,7 @@ impl Trace {
                     sheet,
                     profile,
                     &self.entries,
+                    &mut self.text,
                     &mut self.block,
                     &mut self.line,
                     entry,

@@ -5,7 +5,6 @@ ghost use Rattle.std.specs.Fmt.{decimal};
 ghost use Rattle.a429_word.specs.Sheet.{Says};
 ghost use Rattle.a429_ldu.specs.Freedom.{freedom_of};
 ghost use Rattle.a429_link.specs.Allowed.{kinds_of_next};
-ghost use Rattle.a429_record.specs.Writing.{entry_text};
 ghost use Rattle.a429_view.specs.Forms.{form_or_other_text, form_text, other_text};
 ghost use Rattle.a429_view.specs.Line.{Adds, Fits};
 ghost use Rattle.a429_view.specs.Trace.{crossing_text, doing_text, else_form_text, else_text, free_text, line_head, kinds_text, turned_over, why_text, words_text};
@@ -17,7 +16,7 @@ use crate::trace::count::EntryCount;
 use a429_ldu::{Form, Freedom, why_free};
 use a429_link::{Crossing, Doing, Next, Why, form_of};
 use a429_profile::Profile;
-use a429_record::Entry;
+use a429_record::{Entry, EntryText};
 use a429_word::{Bus, Sheet, Word};
 use std::io::Write;
 
@@ -27,12 +26,13 @@ pub(crate) fn put_free<W: Write>(
     sheet: &mut Sheet<'_, W>,
     profile: &Profile,
     count: &EntryCount,
+    text: &mut EntryText,
     entry: &Entry,
 )
     ensures { Says W.contents sheet.old sheet.new (line_head count.now entry.now ++ (free_text profile.now.codes entry.now.bus entry.now.word (freedom_of profile.now.codes entry.now.bus entry.now.word) ++ codes "\n")) }
 {
+    put_head(sheet, count, text, entry);
     let mut line = Line::new();
-    add_head(&mut line, count, entry);
     add_freedom(&mut line, profile, entry.bus, entry.word);
     line.put(b"\n");
     sheet.put(line.as_slice());
@@ -44,6 +44,7 @@ pub(crate) fn put_allowed<W: Write>(
     sheet: &mut Sheet<'_, W>,
     profile: &Profile,
     count: &EntryCount,
+    text: &mut EntryText,
     block: &mut InBlockText,
     line: &mut Line,
     entry: &Entry,
@@ -52,8 +53,8 @@ pub(crate) fn put_allowed<W: Write>(
 )
     ensures { Says W.contents sheet.old sheet.new (line_head count.now entry.now ++ (form_text profile.now.codes form.now ++ (codes " | " ++ doing_text doing.now) ++ codes "\n")) }
 {
+    put_head(sheet, count, text, entry);
     line.clear();
-    add_head(line, count, entry);
     add_likely_form(line, profile, form);
     add_doing(line, block, doing);
     line.put(b"\n");
@@ -73,8 +74,8 @@ pub(crate) fn put_refused<W: Write>(
 )
     ensures { Says W.contents sheet.old sheet.new (line_head count.now entry.now ++ (form_or_other_text profile.now.codes form (other_text profile.now.codes entry.now.bus entry.now.word) ++ codes " | refused, allowed: " ++ kinds_text (kinds_of_next next) ++ codes "\n")) }
 {
+    put_head(sheet, count, &mut EntryText::new(), entry);
     let mut line = Line::new();
-    add_head(&mut line, count, entry);
     add_form_or_other(&mut line, profile, entry.bus, entry.word, form);
     line.put(b" | refused, allowed: ");
     add_next(&mut line, next);
@@ -82,29 +83,19 @@ pub(crate) fn put_refused<W: Write>(
     sheet.put(line.as_slice());
 }
 
-// How a line begins: the number of the entry, and what was recorded.
+// Puts how a line begins: the number of the entry, and what was recorded.
 #[inline(always)]
-fn add_head(line: &mut Line, count: &EntryCount, entry: &Entry)
-    requires { Fits line.old 57 }
-    ensures { Adds line.old line.new 57 (line_head count.now entry.now) }
+fn put_head<W: Write>(
+    sheet: &mut Sheet<'_, W>,
+    count: &EntryCount,
+    text: &mut EntryText,
+    entry: &Entry,
+)
+    ensures { Says W.contents sheet.old sheet.new (line_head count.now entry.now) }
 {
-    line.put_short(count.digits());
-    line.put(b" ");
-    add_entry(line, entry);
-}
-
-// What was recorded: the time, the bus and the word, a space after each.
-#[inline(always)]
-fn add_entry(line: &mut Line, entry: &Entry)
-    requires { Fits line.old 32 }
-    ensures { Adds line.old line.new 32 (entry_text 32 32 entry.now) }
-{
-    line.put_number(entry.time);
-    let letter = entry.bus.letter().as_bytes()[0];
-    let hex = entry.word.hex();
-    line.put(&[
-        b' ', letter, b' ', hex[0], hex[1], hex[2], hex[3], hex[4], hex[5], hex[6], hex[7], b' ',
-    ]);
+    count.digits().put_on(sheet);
+    sheet.put(b" ");
+    text.put_parts(sheet, *entry, b' ', b' ');
 }
 
 // Why a word is free, and what it would be.
