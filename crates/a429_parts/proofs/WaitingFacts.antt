@@ -249,8 +249,7 @@ end_stays lines line new e end h ht hw text more is =
     let es = entries_of lines in
     let all : entries_of new ≡ es ++ e ∷ [] = (pushed lines line new e h ht hw text more).entries in
     let none : end.lines - length es ≡ 0 = omega (arith, is.0) in
-    let same : take end.lines (es ++ e ∷ []) ≡ take end.lines es = taken es (e ∷ []) end.lines ∙ rw none (append-nil (take end.lines es)) in
-    (
+    let same : take end.lines (es ++ e ∷ []) ≡ take end.lines es = taken es (e ∷ []) end.lines ∙ rw none (append-nil (take end.lines es)) in (
       omega (arith, is.0, ap length all, length-append es (e ∷ [])),
       is.1 ∙ sym (ap (λ (l : List Entry). length (flat_map line_text l)) (ap (take end.lines) all ∙ same)),
     )

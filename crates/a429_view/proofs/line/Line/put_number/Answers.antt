@@ -13,8 +13,7 @@ pub write_digits-requires : goal.write_digits-requires
 write_digits-requires c =
     let len = c.self.inside.len in
     let room : len + 20 ≤ 192 =
-    omega (arith, c.requires, ap length c.self.view_is, c.self.told, length-take-le len c.self.inside.bytes (omega (arith, c.self.told))) in
-    (
+    omega (arith, c.requires, ap length c.self.view_is, c.self.told, length-take-le len c.self.inside.bytes (omega (arith, c.self.told))) in (
       omega (arith, c.digit_count.ensures),
       omega (arith, room, c.self.told, c.digit_count.ensures, length-decimal-le 20 c.args.number (omega arith) (omega arith) (omega arith)),
     )
