@@ -13,7 +13,7 @@ use Rattle.a429_explain.specs.declared.verdict.Reason.TheVariants.{NoForm, NotGr
 use Rattle.a429_explain.specs.declared.verdict.Doubt.{Doubt}
 use Rattle.a429_explain.specs.declared.verdict.Doubt.TheVariants.{NeverWhole, NotOneBlock, NotReplayed, OutOfSteps}
 use Rattle.a429_explain.specs.Verdict.{IsSoundVerdict, IsAccepted, IsOfLeastVersion, IsDoubted}
-use Rattle.a429_merge.specs.declared.budget.Limit.{Limit}
+use Rattle.a429_merge.specs.declared.budget.Cut.{Cut}
 use Rattle.a429_search.specs.Deciding.{IsExact, IsImpossibleBy, IsOfCheck}
 use Rattle.a429_c.specs.Input.{IsProfileOf}
 use Rattle.a429_c.specs.Buffers.{Holds, Left, LeavesFiles}
@@ -29,7 +29,7 @@ pub record IsDecided (p : Contents) (items : List Seen) (v : Verdict) : Type 0 w
   pub impossible : IsImpossibleBy p items v
   pub doubted : IsDoubted p items v
   pub of_check : IsOfCheck p items v
-  pub cut : Option Limit
+  pub cut : Option Cut
   pub exact : IsExact p items cut v
 
 -- it is one on the recording that these bytes are, under a profile that was read

@@ -12,7 +12,7 @@ use Rattle.a429_explain.specs.declared.verdict.Reason.{Reason}
 use Rattle.a429_explain.specs.declared.verdict.Reason.TheVariants.{NoForm, NotGranted, WrongAnswer, BadBlock, WrongNumber, OtherBlock, NoRun}
 use Rattle.a429_explain.specs.declared.verdict.Doubt.{Doubt}
 use Rattle.a429_explain.specs.declared.verdict.Doubt.TheVariants.{NeverWhole, NotOneBlock, NotReplayed, OutOfSteps}
-use Rattle.a429_merge.specs.declared.budget.Limit.{Limit}
+use Rattle.a429_merge.specs.declared.budget.Cut.{Cut}
 use Rattle.a429_search.specs.Deciding.{IsExact, IsImpossibleBy, IsImpossibleUpTo, IsOfCheck, IsReasonAt}
 use Rattle.a429_explain.specs.Verdict.{IsSoundVerdict, IsAccepted, IsOfLeastVersion, IsImpossible, IsDoubted, IsFirst, HasNoForm, IsImpossibility, IsExplanation}
 use Rattle.a429_explain.specs.WithoutLoss.{IsWithoutLoss}
@@ -75,7 +75,7 @@ verdict_status (Unexplained i doubt) = 2
 -- was cut short, if it was: that an entry is the first says `IsNotedBy`
 pub record IsDecided (p : Contents) (items : List Seen) (v : Verdict) : Type 0 where
   pub of_check : IsOfCheck p items v
-  pub cut : Option Limit
+  pub cut : Option Cut
   pub exact : IsExact p items cut v
   pub impossible : IsImpossibleBy p items v
   pub first : (i : ℕ) (reason : Reason) → IsReasonAt p items i reason → IsImpossibleUpTo i v

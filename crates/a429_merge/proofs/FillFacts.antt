@@ -220,10 +220,6 @@ no_free_word p count wanted words none few semis are fits = none (inr (few, reco
 
 -- ---- two data words of one byte together
 
-pub if_some_from : {X : Type 0} (P Q : X → Type 0) (o : Option X) → ((x : X) → P x → Q x) → IfSome o P → IfSome o Q
-if_some_from P Q (Some x) f p = f x p
-if_some_from P Q None f p = tt
-
 -- words that have some before more have these
 pub without_more : (p : Contents) (count : ℕ) (wanted : Option ℕ) (recorded more words : List ℕ)
     → IsFilled p count wanted (recorded ++ more) words → IsFilled p count wanted recorded words
@@ -241,11 +237,6 @@ pub ok_none : {X E : Type 0} (Q : Type 0) (r : Result (Option X) E) → Q → If
 ok_none Q (Ok (Some x)) q = tt
 ok_none Q (Ok None) q = q
 ok_none Q (Err e) q = tt
-
-pub ok_none_from : {X E : Type 0} (P Q : Type 0) (r : Result (Option X) E) → (P → Q) → IfOk r (λ o. IfNone o P) → IfOk r (λ o. IfNone o Q)
-ok_none_from P Q (Ok (Some x)) f p = tt
-ok_none_from P Q (Ok None) f p = f p
-ok_none_from P Q (Err e) f p = tt
 
 -- where no last word of one semi-octet, put after the recorded ones, can be filled up, nor can these by themselves, there are none
 pub no_one_byte : (p : Contents) (wanted : Option ℕ) (recorded : List ℕ) → ¬ CanBeFilled p 2 wanted recorded

@@ -83,7 +83,7 @@ some_both P Q R (Ok (Some m)) f p q = f m p q
 some_both P Q R (Ok None) f p q = p
 some_both P Q R (Err e) f p q = p
 
-pub none_from : {E : Type 0} (A B : Type 0) (r : Result (Option ℕ) E) → (A → B) → IfOk r (λ o. IfNone o A) → IfOk r (λ o. IfNone o B)
-none_from A B (Ok (Some m)) f p = p
-none_from A B (Ok None) f p = f p
-none_from A B (Err e) f p = p
+pub ok_none_from : {X E : Type 0} (P Q : Type 0) (r : Result (Option X) E) → (P → Q) → IfOk r (λ o. IfNone o P) → IfOk r (λ o. IfNone o Q)
+ok_none_from P Q (Ok (Some x)) f p = tt
+ok_none_from P Q (Ok None) f p = f p
+ok_none_from P Q (Err e) f p = tt

@@ -12,7 +12,8 @@ use Rattle.a429_merge.specs.Order.{words_at, IsNext, IsAllPassed, step_over, pas
 use Rattle.a429_merge.specs.Fill.{Fits, AreDataOf}
 use Rattle.a429_merge.specs.Bounded.{HasRests, IsBoundedStep, AreSteps, HasStepOf, Reaches, IsHopeless}
 use Rattle.a429_merge.proofs.SubsequenceFacts.{sub_tails, sub_other}
-use Rattle.a429_merge.proofs.OrderFacts.{past, rest_at, next_or_none, get_front}
+use Rattle.a429_word.proofs.ListFacts.{none_past}
+use Rattle.a429_merge.proofs.OrderFacts.{rest_at, next_or_none, get_front}
 
 -- what is left of a list, where a word comes first in a list that has it: the word is passed where it is next
 after_if : (xs : List ℕ) (k z x : ℕ) (more : List ℕ) → slice_get xs k ≡ Some x → IsSubsequenceOf (x ∷ drop (k + 1) xs) (z ∷ more)
@@ -23,7 +24,7 @@ after_if xs k z x more e left false other =
 
 after_word : (xs : List ℕ) (k z : ℕ) (more : List ℕ)
     → (o : Option ℕ) → slice_get xs k ≡ o → IsSubsequenceOf (drop k xs) (z ∷ more) → IsSubsequenceOf (drop (step_over o k z) xs) more
-after_word xs k z more None e h = rw (drop_all k xs (past xs k e)) (sub_none more)
+after_word xs k z more None e h = rw (drop_all k xs (none_past xs k e)) (sub_none more)
 after_word xs k z more (Some x) e h =
     after_if xs k z x more e (subst (λ l. IsSubsequenceOf l (z ∷ more)) (rest_at xs k z x e) h) (x == z) refl
 

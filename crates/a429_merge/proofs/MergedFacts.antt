@@ -5,13 +5,6 @@ use Rattle.a429_merge.specs.Order.{HasEach}
 use Rattle.a429_merge.specs.Fill.{IsFilled, AreDataOf, HasOneByte, CanBeFilled, CanBeCompleted}
 use Rattle.a429_merge.proofs.SubsequenceFacts.{sub_trans}
 
--- a clause on a result, and what follows from it
-pub some_from : {X E : Type 0} (P Q : X → Type 0) (r : Result (Option X) E) → ((x : X) → P x → Q x) → IfOk r (λ o. IfSome o P)
-    → IfOk r (λ o. IfSome o Q)
-some_from P Q (Ok (Some x)) f p = f x p
-some_from P Q (Ok None) f p = p
-some_from P Q (Err e) f p = p
-
 -- two clauses on a result that is none, and what follows from both
 pub none_from : {X E : Type 0} (P Q R : Type 0) (r : Result (Option X) E)
     → (P → Q → R) → IfOk r (λ o. IfNone o P) → IfOk r (λ o. IfNone o Q) → IfOk r (λ o. IfNone o R)

@@ -4,17 +4,13 @@ use Rattle.std.proofs.lemmas.Bool.{eqb-true, eqb-false, eq-eqb, cases_eq}
 use Rattle.std.proofs.lemmas.List.{drop_more, drop_all, take_more, take_all, length-drop, length-map, get_or_default}
 use Rattle.std.proofs.lemmas.List.Elements.{Contains-push_cases}
 use Rattle.std.proofs.lemmas.Option.{slice_get_within, get_or_from_slice_get}
+use Rattle.a429_word.proofs.ListFacts.{none_past}
 use Rattle.a429_link.specs.Run.{IsSubsequenceOf}
 use Rattle.a429_merge.specs.Order.{lists_of, words_at, HasEach, HasNoneTwice, AreTheirs, IsNext, IsLater, IsFree, IsAllPassed, step_over, passed_with}
 use Rattle.a429_link.proofs.Subsequence.{sub_push, sub_lost}
 use Rattle.a429_merge.proofs.SubsequenceFacts.{sub_drop, sub_tails, sub_contains, in_cons, in_more}
 
 -- ---- one list, with one word more
-
-pub past : (xs : List ℕ) (k : ℕ) → slice_get xs k ≡ None → length xs ≤ k
-past [] k e = omega arith
-past (x ∷ xs) zero e = absurd (cc e)
-past (x ∷ xs) (suc k) e = omega (arith, past xs k e)
 
 no_word : (v : ℕ) → ¬ Contains [] v
 no_word v (k, l, e) = absurd (omega arith)
@@ -52,7 +48,7 @@ module _ (xs : List ℕ) (k w : ℕ) where
 
     apart_over : (o : Option ℕ) → slice_get xs k ≡ o → Contains merged v ⊎ (w ≡ v) → ¬ Contains (drop (step_over o k w) xs) v
     apart_over None e (inl old) c = apart v old c
-    apart_over None e (inr is) c = let none : drop k xs ≡ [] = drop_all k xs (past xs k e) in no_word v (subst (λ l. Contains l v) none c)
+    apart_over None e (inr is) c = let none : drop k xs ≡ [] = drop_all k xs (none_past xs k e) in no_word v (subst (λ l. Contains l v) none c)
     apart_over (Some x) e h c = apart_if x e (x == w) refl h c
 
 -- no word stands twice, with one more that does not stand

@@ -7,8 +7,9 @@ use Rattle.a429_merge.specs.declared.budget.Limit.TheVariants.{Attempts, Filling
 abbrev pub steps_for : ℕ → ℕ
 steps_for n = min (n * 1000 + 1000000000) (2 ^ 64 - 1)
 
--- how much a limit leaves: steps, attempts to send one link data unit up to more than 16, or places of one search; and of data words that were
--- merged, and are filled up in none of the ways that are tried, how many are not fewer than those that are wanted
+-- How much a limit leaves. Of steps and of places: how many may still be taken. Of attempts to send one link data unit: how many may
+-- still come before there are 17. Of merged data words that no way which is tried fills up: one more than those beyond what is wanted, and
+-- nothing where there are fewer.
 abbrev pub leaves : Limit → ℕ
 leaves (Steps left) = left
 leaves (Attempts recorded) = 17 - recorded

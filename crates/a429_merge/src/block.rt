@@ -9,7 +9,7 @@ ghost use Rattle.a429_merge.specs.Fill.{Fits, AreDataOf, CanBeCompleted};
 ghost use Rattle.a429_merge.specs.Block.{check_wanted, HaveCheckWord, IsUnitOf, MayBeUnitOf, GivesUnit};
 
 use crate::bounded::search_words;
-use crate::budget::{Budget, Limit};
+use crate::budget::Budget;
 use crate::differing::differing;
 use crate::fill::Wanted;
 use crate::longest::complete_longest;
@@ -41,6 +41,7 @@ pub fn unit_of_pieces(
     ensures none { IfOk result (λ found. IfNone found (EachIndex pieces.now.attempts.items (λ i. ¬ GivesUnit profile.now pieces.now (words_at (lists_of pieces.now.attempts.items) i)))) }
     ensures exact { result ≡ Ok None → budget.new.cut ≡ None → pieces.now.count ≤ 255 → (u : LduValue) → ¬ MayBeUnitOf profile.now pieces.now u }
     ensures cut { budget.new.cut ≡ None → budget.old.cut ≡ None }
+    ensures entry { budget.new.entry ≡ budget.old.entry }
 {
     // (for the proof: the profile is sound)
     let _codes = profile.codes();
@@ -77,6 +78,7 @@ fn data_words(
         → ¬ CanBeCompleted profile.now wanted.count wanted.check (words_at (lists_of attempts.now) i)))) }
     ensures exact { result ≡ Ok None → budget.new.cut ≡ None → wanted.count ≤ 253 → (words : List ℕ) → ¬ AreDataOf profile.now wanted.count wanted.check (lists_of attempts.now) words }
     ensures cut { budget.new.cut ≡ None → budget.old.cut ≡ None }
+    ensures entry { budget.new.entry ≡ budget.old.entry }
 {
     let found = complete_longest(alloc, profile, attempts, wanted, budget)?;
     if found.is_some() {
@@ -87,11 +89,7 @@ fn data_words(
     }
     match differing(alloc, attempts, budget)? {
         Some(lists) => words_of(alloc, profile, &lists, wanted, budget),
-        None => {
-            let recorded = attempts.len();
-            budget.cut(Limit::Attempts { recorded });
-            Ok(None)
-        }
+        None => Ok(None),
     }
 }
 
@@ -106,6 +104,7 @@ fn words_of(
     ensures some { IfOk result (λ found. IfSome found (λ v. AreDataOf profile.now wanted.count wanted.check (lists_of lists.now) v.items)) }
     ensures exact { result ≡ Ok None → budget.new.cut ≡ None → wanted.count ≤ 253 → (words : List ℕ) → ¬ AreDataOf profile.now wanted.count wanted.check (lists_of lists.now) words }
     ensures cut { budget.new.cut ≡ None → budget.old.cut ≡ None }
+    ensures entry { budget.new.entry ≡ budget.old.entry }
 {
     if let Some(merged) = merge_in_one_order(alloc, lists, budget)? {
         let found = completed_merge(alloc, profile, lists, &merged, wanted, budget)?;

@@ -37,6 +37,7 @@ pub fn search_words(
     ensures none { result ≡ Ok None → budget.new.cut ≡ None → wanted.count ≤ 253
         → (words : List ℕ) → ¬ AreDataOf profile.now wanted.count wanted.check (lists_of lists.now) words }
     ensures cut { budget.new.cut ≡ None → budget.old.cut ≡ None }
+    ensures entry { budget.new.entry ≡ budget.old.entry }
 {
     let Some(pairs) = pairs_of(alloc, lists, budget)? else {
         return Ok(None);
@@ -89,6 +90,7 @@ fn pairs_of(
     ensures some { IfOk result (λ found. IfSome found (λ pairs. All (IsPair (lists_of lists.now)) pairs.items)) }
     ensures none { IfOk result (λ found. IfNone found (SomeIndex lists.now (λ i. 253 < length (words_at (lists_of lists.now) i)))) }
     ensures cut { budget.new.cut ≡ budget.old.cut }
+    ensures entry { budget.new.entry ≡ budget.old.entry }
 {
     let mut pairs = Vec::new(alloc);
     for right in 0..lists.len() {
@@ -114,6 +116,7 @@ fn pair_of(
     ensures some { IfOk result (λ found. IfSome found (IsPair (lists_of lists.now))) }
     ensures none { IfOk result (λ found. IfNone found (SomeIndex lists.now (λ i. 253 < length (words_at (lists_of lists.now) i)))) }
     ensures cut { budget.new.cut ≡ budget.old.cut }
+    ensures entry { budget.new.entry ≡ budget.old.entry }
 {
     let lefts = words_at(lists, left);
     let rights = words_at(lists, right);
@@ -165,6 +168,7 @@ fn steps_from(
     ensures are { IfOk result (λ steps. AreSteps (lists_of search.now.lists.now) passed.now steps.items) }
     ensures every { IfOk result (λ steps. (i : ℕ) → i < length search.now.lists.now → (w : ℕ) → IsNext (lists_of search.now.lists.now) passed.now i w → HasStepOf w steps.items) }
     ensures cut { budget.new.cut ≡ budget.old.cut }
+    ensures entry { budget.new.entry ≡ budget.old.entry }
 {
     let least = least_left(search, passed);
     let mut steps = Vec::new(alloc);
@@ -255,12 +259,13 @@ fn extend(
     ensures none { result ≡ Ok None → budget.new.cut ≡ None
         → IsHopeless search.now.profile.now search.now.wanted.count search.now.wanted.check (lists_of search.now.lists.now) passed.now path.old.merged.items }
     ensures cut { budget.new.cut ≡ None → budget.old.cut ≡ None }
+    ensures entry { budget.new.entry ≡ budget.old.entry }
 {
     if budget.runs_out() {
         return Ok(None);
     }
     if path.nodes == 0 {
-        budget.cut(Limit::Places { left: path.nodes });
+        budget.cut_short(Limit::Places { left: path.nodes });
         return Ok(None);
     }
     path.nodes -= 1;
@@ -276,7 +281,7 @@ fn extend(
         )?;
         // (only where the polynomial is even: other words may do)
         if words.is_none() && path.merged.len() < search.wanted.count {
-            budget.cut(Limit::Fillings {
+            budget.cut_short(Limit::Fillings {
                 merged: path.merged.len(),
                 wanted: search.wanted.count,
             });

@@ -1,10 +1,11 @@
 //! The attempts of a group that differ.
 
-ghost use Rattle.std.specs.Prelude.{◌≡◌, true, ◌+◌, ◌≤◌, ◌<◌, ◌↔◌, ℕ, List, IfOk, IfSome, IfNone, OnOk, IsTrue, EachIndex, SomeIndex, length};
+ghost use Rattle.std.specs.Prelude.{◌≡◌, None, true, ◌+◌, ◌≤◌, ◌<◌, ◌↔◌, ℕ, List, IfOk, IfSome, IfNone, OnOk, IsTrue, IsSome, IsSomeAnd, EachIndex, SomeIndex, length};
 ghost use Rattle.a429_link.specs.Run.{IsSubsequenceOf};
+ghost use Rattle.a429_merge.specs.declared.budget.Limit.TheVariants.{Attempts};
 ghost use Rattle.a429_merge.specs.Order.{lists_of, words_at, HasEach};
 
-use crate::budget::Budget;
+use crate::budget::{Budget, Limit};
 use crate::order::words_at;
 use crate::subsequence::is_subsequence;
 use a429_word::Word;
@@ -15,7 +16,7 @@ use std::alloc::{AllocError, Global};
 pub const MOST_ATTEMPTS: usize = 16;
 
 /// At most `MOST_ATTEMPTS` lists: what has each of them in its order has each of these, and the other way round. `None` where
-/// there would be more.
+/// there would be more, and then a search is cut short.
 pub(crate) fn differing(
     alloc: Global,
     lists: &[Vec<Word>],
@@ -26,7 +27,10 @@ pub(crate) fn differing(
     ensures few { IfOk result (λ found. IfSome found (λ kept. length kept.items ≤ 16)) }
     ensures most { IfOk result (λ found. IfSome found (λ kept. length kept.items ≤ length lists.now)) }
     ensures none { IfOk result (λ found. IfNone found (16 < length lists.now)) }
-    ensures cut { budget.new.cut ≡ budget.old.cut }
+    ensures too_many { IfOk result (λ found. IfNone found (IsSomeAnd budget.new.cut (λ r. r.limit ≡ Attempts (length lists.now)))) }
+    ensures uncut { IfOk result (λ found. IfSome found (λ kept. budget.new.cut ≡ budget.old.cut)) }
+    ensures cut { budget.new.cut ≡ None → budget.old.cut ≡ None }
+    ensures entry { budget.new.entry ≡ budget.old.entry }
 {
     let mut kept = Vec::new(alloc);
     for list in lists {
@@ -36,6 +40,8 @@ pub(crate) fn differing(
         }
         keep(&mut kept, Vec::from_slice(alloc, list)?)?;
         if kept.len() > MOST_ATTEMPTS {
+            let recorded = lists.len();
+            budget.cut_short(Limit::Attempts { recorded });
             return Ok(None);
         }
     }
@@ -54,7 +60,10 @@ pub fn lists_with(
     ensures all { IfOk result (λ found. IfSome found (λ kept. (zs : List ℕ) → HasEach zs (lists_of kept.items) → HasEach zs (lists_of lists.now) × (is_new ≡ true → IsSubsequenceOf list.now zs))) }
     ensures only { IfOk result (λ found. IfSome found (λ kept. (zs : List ℕ) → HasEach zs (lists_of lists.now) → IsSubsequenceOf list.now zs → HasEach zs (lists_of kept.items))) }
     ensures none { IfOk result (λ found. IfNone found (16 ≤ length lists.now)) }
-    ensures cut { budget.new.cut ≡ budget.old.cut }
+    ensures too_many { IfOk result (λ found. IfNone found (IsSome budget.new.cut)) }
+    ensures uncut { IfOk result (λ found. IfSome found (λ kept. budget.new.cut ≡ budget.old.cut)) }
+    ensures cut { budget.new.cut ≡ None → budget.old.cut ≡ None }
+    ensures entry { budget.new.entry ≡ budget.old.entry }
 {
     let Some(mut kept) = differing(alloc, lists, budget)? else {
         return Ok(None);
@@ -64,6 +73,8 @@ pub fn lists_with(
     }
     keep(&mut kept, Vec::from_slice(alloc, list)?)?;
     if kept.len() > MOST_ATTEMPTS {
+        let recorded = lists.len() + 1;
+        budget.cut_short(Limit::Attempts { recorded });
         return Ok(None);
     }
     Ok(Some(kept))

@@ -26,6 +26,7 @@ pub(crate) fn complete_longest(
     ensures none { IfOk result (λ found. IfNone found (EachIndex lists.now (λ i. HasEach (words_at (lists_of lists.now) i) (lists_of lists.now)
         → ¬ CanBeCompleted profile.now wanted.count wanted.check (words_at (lists_of lists.now) i)))) }
     ensures cut { budget.new.cut ≡ budget.old.cut }
+    ensures entry { budget.new.entry ≡ budget.old.entry }
 {
     for i in 0..lists.len() {
         match complete_by(alloc, profile, lists, i, wanted, budget)? {
@@ -50,6 +51,7 @@ fn complete_by(
     ensures none { IfOk result (λ found. IfNone found (HasEach (words_at (lists_of lists.now) i) (lists_of lists.now)
         → ¬ CanBeCompleted profile.now wanted.count wanted.check (words_at (lists_of lists.now) i))) }
     ensures cut { budget.new.cut ≡ budget.old.cut }
+    ensures entry { budget.new.entry ≡ budget.old.entry }
 {
     let list = words_at(lists, i);
     if !has_each(list, lists, budget) {
@@ -62,6 +64,7 @@ fn complete_by(
 fn has_each(words: &[Word], lists: &[Vec<Word>], budget: &mut Budget) -> bool
     ensures is { IsTrue result ↔ HasEach words.now (lists_of lists.now) }
     ensures cut { budget.new.cut ≡ budget.old.cut }
+    ensures entry { budget.new.entry ≡ budget.old.entry }
 {
     for i in 0..lists.len() {
         budget.spend(words.len());

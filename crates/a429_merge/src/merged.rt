@@ -26,6 +26,7 @@ pub(crate) fn completed_merge(
     ensures some { IfOk result (λ found. IfSome found (λ v. AreDataOf profile.now wanted.count wanted.check (lists_of lists.now) v.items)) }
     ensures none { IfOk result (λ found. IfNone found (¬ CanBeCompleted profile.now wanted.count wanted.check merged.now)) }
     ensures cut { budget.new.cut ≡ budget.old.cut }
+    ensures entry { budget.new.entry ≡ budget.old.entry }
 {
     let _lists = lists;
     budget.spend(wanted.count.saturating_mul(STEPS_A_WORD));

@@ -20,6 +20,7 @@ pub(crate) fn merge_one_by_one(
     ensures kept { IfOk result (λ merged. IfSome merged (λ v. HasEach v.items (lists_of lists.now))) }
     ensures none { IfOk result (λ merged. IfNone merged (most_data_words < sum_by (λ list. length list.items) lists.now)) }
     ensures cut { budget.new.cut ≡ budget.old.cut }
+    ensures entry { budget.new.entry ≡ budget.old.entry }
 {
     let mut merged = Vec::new(alloc);
     for list in lists {

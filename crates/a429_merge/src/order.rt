@@ -19,6 +19,7 @@ pub fn merge_in_one_order(
     ensures own { IfOk result (λ merged. IfSome merged (λ v. AreTheirs v.items (lists_of lists.now))) }
     ensures none { IfOk result (λ merged. IfNone merged ((zs : List ℕ) → HasNoneTwice zs → ¬ HasEach zs (lists_of lists.now))) }
     ensures cut { budget.new.cut ≡ budget.old.cut }
+    ensures entry { budget.new.entry ≡ budget.old.entry }
 {
     let mut passed = vec![in alloc; 0usize; lists.len()]?;
     let mut merged = Vec::new(alloc);
@@ -40,6 +41,7 @@ fn free_word(lists: &[Vec<Word>], passed: &[usize], budget: &mut Budget) -> Opti
     ensures free { IfSome result (IsFree (lists_of lists.now) passed.now) }
     ensures none { IfNone result (EachIndex lists.now (λ i. (w : ℕ) → IsNext (lists_of lists.now) passed.now i w → ¬ IsFree (lists_of lists.now) passed.now w)) }
     ensures cut { budget.new.cut ≡ budget.old.cut }
+    ensures entry { budget.new.entry ≡ budget.old.entry }
 {
     for i in 0..lists.len() {
         let Some(word) = next_word(words_at(lists, i), passed[i]) else {
@@ -57,6 +59,7 @@ fn is_free(lists: &[Vec<Word>], passed: &[usize], word: Word, budget: &mut Budge
     requires { length passed.now ≡ length lists.now }
     ensures is { IsTrue result ↔ IsFree (lists_of lists.now) passed.now word }
     ensures cut { budget.new.cut ≡ budget.old.cut }
+    ensures entry { budget.new.entry ≡ budget.old.entry }
 {
     for i in 0..lists.len() {
         if comes_later(words_at(lists, i), passed[i], word, budget) {
@@ -110,6 +113,7 @@ pub(crate) fn next_word(words: &[Word], passed: usize) -> Option<Word>
 fn comes_later(words: &[Word], passed: usize, word: Word, budget: &mut Budget) -> bool
     ensures is { IsTrue result ↔ IsLater words.now passed word }
     ensures cut { budget.new.cut ≡ budget.old.cut }
+    ensures entry { budget.new.entry ≡ budget.old.entry }
 {
     budget.spend(words.len().saturating_sub(passed));
     passed < words.len() && words[passed + 1..].contains(&word)

@@ -1,8 +1,8 @@
 -- Verdicts that are given before a search.
 use Rattle.std.proofs.lemmas.Bool.{cases_order}
-use Rattle.std.proofs.lemmas.List.{take-map}
+use Rattle.std.proofs.lemmas.List.{length-take-le, take-map}
 use Rattle.std.proofs.lemmas.Option.{slice_get_past}
-use Rattle.std.proofs.Common.{◌≡◌, ◌⊎◌, ℕ, zero, suc, ◌+◌, ◌<◌, ◌≤◌, List, [], ◌∷◌, ◌++◌, length, take, drop, Option, Some, None, IsSome, is_some, slice_get, refl, sym, ap, ◌∙◌, subst, inl, inr, append-nil, arith}
+use Rattle.std.proofs.Common.{IfSome, ◌≡◌, ◌⊎◌, ℕ, zero, suc, ◌+◌, ◌<◌, ◌≤◌, List, [], ◌∷◌, ◌++◌, length, take, drop, Option, Some, None, IsSome, slice_get, refl, sym, ap, ◌∙◌, subst, inl, inr, append-nil, arith}
 use Rattle.a429_profile.specs.Profile.{Contents}
 use Rattle.a429_profile.specs.declared.codes.Codes.{Codes}
 use Rattle.a429_ldu.specs.declared.forms.Form.TheVariants.{Rts, Cts, Ack, Nak, Sot, Part, Eot}
@@ -26,6 +26,7 @@ use Rattle.a429_explain.specs.declared.verdict.Verdict.TheVariants.{Impossible, 
 use Rattle.a429_explain.specs.Verdict.{IsFirst}
 use Rattle.a429_explain.specs.Walk.{AreAllowedUpTo, FitsAt, FitsSight}
 use Rattle.a429_contradiction.specs.declared.contradiction.Contradiction.{Contradiction}
+use Rattle.a429_merge.specs.Budget.{IsReached}
 use Rattle.a429_merge.specs.declared.budget.Cut.{Cut}
 use Rattle.a429_contradiction.specs.Contradiction.{ContradictsAt, HasNoContradiction, HasNoneBefore, HasNoRun}
 use Rattle.a429_contradiction.proofs.ContradictionFacts.{none_before}
@@ -144,15 +145,10 @@ allowed_first p items n may k l =
     take_short (suc n) [] = omega arith
     take_short (suc n) (x ∷ xs) = omega (arith, take_short n xs)
 
-take_length : {X : Type 0} (n : ℕ) (xs : List X) → n ≤ length xs → length (take n xs) ≡ n
-take_length zero xs l = refl
-take_length (suc n) [] l = absurd (omega arith)
-take_length (suc n) (x ∷ xs) l = ap suc (take_length n xs (omega arith))
-
 pub none_first : (p : Contents) (items : List Seen) (n : ℕ)
     → n ≤ length items → HasNoContradiction p (take n items) (length (take n items)) → HasNoContradiction p items n
 none_first p items n m none k l r h =
-    none k (omega (arith, take_length n items m)) r (subst (λ (T : Type 0). T) (sym (in_first p items n k r l)) h)
+    none k (omega (arith, length-take-le n items m)) r (subst (λ (T : Type 0). T) (sym (in_first p items n k r l)) h)
 
 -- a word of the first n at which no run goes on
 pub record IsFound (p : Contents) (items : List Seen) (n : ℕ) (c : Contradiction) : Type 0 where
@@ -170,7 +166,7 @@ none_here p items n k l none j m r h = none j m r (subst (λ (T : Type 0). T) (s
 pub found_first : (p : Contents) (items : List Seen) (n : ℕ) (c : Contradiction)
     → n ≤ length items → IsNoRun p (take n items) c → IsFound p items n c
 found_first p items n c m is =
-    let l : c.entry < n = omega (arith, is.inside, take_length n items m) in
+    let l : c.entry < n = omega (arith, is.inside, length-take-le n items m) in
     let no_run : HasNoRun p items c.entry =
     λ run. is.no_run (subst (λ (xs : List Seen). BeginsARun p xs) (sym (take_first (c.entry + 1) n items (omega arith))) run) in
     elim is.how [
@@ -205,7 +201,7 @@ pub no_run_before : (p : Contents) (es : List Entry) (n : ℕ) (c : Contradictio
     → n ≤ length (items_of es) → HasNoContradiction p (items_of es) n → IsSearched p (items_of (take n es)) cut (Some c)
     → IsNoRunUnlessCut p (items_of es) c cut
 no_run_before p es n c cut m none (inside, why, no_run, begins) =
-    let within : c.entry < n = omega (arith, inside, ap length (take-map seen_of n es), take_length n (items_of es) m) in (
+    let within : c.entry < n = omega (arith, inside, ap length (take-map seen_of n es), length-take-le n (items_of es) m) in (
       record {
         inside = omega arith;
         how = inr (why, λ k j. none k (omega (arith, j, within)));
@@ -300,11 +296,6 @@ first_by p items n c may h = at_least p items c.entry (less_allowed p items n c.
 pub doubt_of_check : (p : Contents) (items : List Seen) (i : ℕ) (d : Doubt) → IsFirst p items (Unexplained i d) → HasDoubt p items
 doubt_of_check p items i d is = record { entry = i; doubt = d; is = is }
 
--- where no limit is answered, no search was cut short
-pub not_cut : {X Y : Type 0} (o : Option X) (q : Option Y) → is_some o ≡ is_some q → o ≡ None → q ≡ None
-not_cut o None same none = refl
-not_cut o (Some y) same none = absurd (cc (sym same ∙ ap is_some none))
-
 -- a request is at an item
 pub request_inside : (p : Contents) (items : List Seen) (i : ℕ) → IsRequestAt p items i → i < length items
 request_inside p items i is = elim (cases_order i (length items)) [
@@ -321,3 +312,8 @@ request_inside p items i is = elim (cases_order i (length items)) [
 pub some_begins : (p : Contents) (items : List Seen) (files : List FileBytes) → AreInSomeRun p items files → BeginsARun p items
 some_begins p items files r =
     record { first = r.first; byte = r.byte; steps = r.steps; run = r.run; more = []; records = r.recorded ∙ sym (append-nil items) }
+
+-- the limit of each cut was reached
+pub is_reached : (o : Option Cut) → IfSome o (λ c. IsReached c.by.limit)
+is_reached None = tt
+is_reached (Some c) = c.by.reached

@@ -1,5 +1,5 @@
 -- A group with one more attempt.
-use Rattle.std.proofs.Common.{◌≡◌, ℕ, not, Bool, true, false, List, [], Vec, Global, Option, Some, None, IfSome, refl, sym, subst, ◌∙◌}
+use Rattle.std.proofs.Common.{◌≡◌, ℕ, Bool, true, false, List, [], Vec, Global, Option, Some, None, IfSome, refl, sym, subst, ◌∙◌}
 use Rattle.std.specs.Prelude.{SomeIndex}
 use Rattle.std.specs.Option.{option_or}
 use Rattle.a429_profile.specs.Profile.{Contents}
@@ -101,7 +101,3 @@ of_new true xs zs lists each new old = new refl
 of_new false xs zs lists each new old =
     let has = old refl in
     sub_trans xs (words_at lists has.0) zs has.2 (each has.0 [] has.1)
-
-pub was_true : (b : Bool) → not b ≡ false → b ≡ true
-was_true true e = refl
-was_true false e = absurd (cc e)

@@ -1,7 +1,6 @@
 -- After an attempt that was acknowledged: the hypotheses make nothing up.
 use Rattle.std.proofs.Common.{◌≡◌, ℕ, zero, suc, ◌+◌, ◌%◌, ◌≤◌, Bool, true, false, List, [], ◌∷◌, length, Option, Some, None, IfSome, IsSomeAnd, is_some, slice_get, refl, sym, ap, ◌∙◌, subst, inl, inr, arith}
 use Rattle.a429_profile.specs.Profile.{Contents}
-use Rattle.a429_profile.specs.declared.codes.Codes.{Codes}
 use Rattle.a429_ldu.specs.Ldu.{LduValue, is_final, ldu_of}
 use Rattle.a429_link.specs.declared.number.UnitNumber.{UnitNumber}
 use Rattle.a429_link.specs.Assignment.{Assigned, IsSound, LeavesFor}
@@ -20,6 +19,7 @@ use Rattle.a429_merge.specs.Block.{MayBeUnitOf}
 use Rattle.a429_search.specs.Frontier.{AreAt, AreCarried, AreHeard, CanSend, FitsGroup, IsHeardBy, IsReal, SomeSays}
 use Rattle.a429_search.specs.Recorded.{MayBeOf, MayBeTo, number_of}
 use Rattle.a429_search.specs.Standing.{CanBe, CanStand, IsAt, IsHeard, IsRegular}
+use Rattle.a429_search.proofs.SearchingFacts.{at_of}
 use Rattle.a429_search.proofs.SoundFacts.{says_some}
 use Rattle.a429_search.proofs.StandingFacts.{at_can, at_regular}
 
@@ -75,15 +75,11 @@ says_of : (p : Contents) (s : Standing) (o : Option Group)
 says_of p s None is real = absurd (cc is)
 says_of p s (Some g) is real = says_some p s g real
 
-at_start : (o : Option StartWord) (s : StartWord) (hyps : List Hypothesis) (k : ℕ) (h : Hypothesis)
-    → o ≡ Some s → AreAt (number_of o) hyps → slice_get hyps k ≡ Some h → IsAt s.number h.standing
-at_start o s hyps k h is at there = (subst (λ (q : Option StartWord). AreAt (number_of q) hyps) is at) k h there
-
 module _ (p : Contents) (a : Attempt) (next hyps : List Hypothesis) (carried : AreCarried p hyps a next) (start : StartWord) (end : EndWord)
     (starts : a.start ≡ Some start) (ends : a.end ≡ Some end) (all : length a.words.items + 2 ≡ a.count)
     (at : AreAt (number_of a.start) next) (k : ℕ) (h : Hypothesis) (is : slice_get next k ≡ Some h) where
   at_h : IsAt start.number h.standing
-  at_h = at_start a.start start next k h starts at is
+  at_h = at_of a.start start next starts at k h is
 
   real_h : IsReal p h.standing h.group
   real_h = (carried k h is).from.real

@@ -1,6 +1,7 @@
 -- An attempt by its words, and the attempts of a recording one after the other.
-use Rattle.std.proofs.Common.{◌≡◌, ℕ, zero, suc, ◌+◌, ◌<◌, ◌≤◌, false, List, [], ◌∷◌, ◌++◌, length, take, Option, Some, None, IfSome, is_some, slice_get, refl, sym, ap, ◌∙◌, subst, inl, inr, append-nil, arith}
-use Rattle.a429_word.proofs.ListFacts.{some_within}
+use Rattle.std.proofs.Common.{◌≡◌, ℕ, suc, ◌+◌, ◌<◌, ◌≤◌, false, List, [], ◌∷◌, ◌++◌, length, take, Option, Some, None, IfSome, is_some, slice_get, refl, sym, ap, ◌∙◌, subst, inl, inr, append-nil, arith}
+use Rattle.a429_word.proofs.ListFacts.{next_item, some_within}
+use Rattle.a429_word.proofs.Outcomes.{not_some}
 use Rattle.a429_word.specs.declared.bus.Bus.{Bus}
 use Rattle.a429_word.specs.declared.bus.Bus.TheVariants as bus
 use Rattle.a429_profile.specs.Profile.{Contents, IsProfile}
@@ -18,7 +19,7 @@ use Rattle.a429_link.specs.Run.{IsSubsequenceOf}
 use Rattle.a429_link.specs.WholeBlock.{data_first, data_words}
 use Rattle.a429_link.proofs.AllData.{data-append, data_block, sub_data}
 use Rattle.a429_link.proofs.BlockWords.{InBlock, IsIn, in_block, in_whole, is_end, is_part, is_start}
-use Rattle.a429_link.proofs.Contradictions.{latest_push, next_item}
+use Rattle.a429_link.proofs.Contradictions.{latest_push}
 use Rattle.a429_link.proofs.Message.{Eot, IsRead, Sot, end_message, message_in, message_of}
 use Rattle.a429_link.proofs.MessageRead.{is_read}
 use Rattle.a429_explain.specs.declared.decoded.DecodedWord.{DecodedWord}
@@ -293,10 +294,6 @@ latest_asked p items n i count at some =
 
 -- ---- by what is known of a word
 
-no_value : (o : Option ℕ) → is_some o ≡ false → o ≡ None
-no_value None e = refl
-no_value (Some n) e = absurd (cc e)
-
 pub first_closed : (p : Contents) (items : List Seen) (n : ℕ)
     → closed p (take n items) ≡ [] → attempts p (take n items) ≡ latest p (take n items) ∷ []
 first_closed p items n none = all_attempts p (take n items) ∙ ap (λ (l : List link.Attempt). l ++ latest p (take n items) ∷ []) none
@@ -311,7 +308,7 @@ closed_on p items n o l is none =
     let found = some_within items n l in
     let one : n + 1 ≡ suc n = omega arith in
     ap (λ (k : ℕ). closed p (take k items)) one
-    ∙ closed_same p items n found.0 found.1 (asked_is p.codes items n found.0 o found.1 is ∙ no_value o none)
+    ∙ closed_same p items n found.0 found.1 (asked_is p.codes items n found.0 o found.1 is ∙ not_some o none)
 
 pub asked_first : (p : Contents) (items : List Seen) (n count : ℕ) (b : Attempt)
     → n < length items → Some count ≡ asked_at p.codes (slice_get items n) → IsRecorded p.codes (fresh count) b
@@ -334,7 +331,7 @@ recorded_on p items n o i h old new is none at heard taken was =
     let form : form_of p.codes i.bus i.word ≡ h.form = subst (λ (j : Seen). form_of p.codes j.bus j.word ≡ h.form) same heard.form_is in
     let one : n + 1 ≡ suc n = omega arith in
     let grows =
-    ap (λ (k : ℕ). latest p (take k items)) one ∙ latest_same p items n i at (asked_is p.codes items n i o at is ∙ no_value o none)
+    ap (λ (k : ℕ). latest p (take k items)) one ∙ latest_same p items n i at (asked_is p.codes items n i o at is ∙ not_some o none)
     ∙ ap (λ (x : Option Form). grown i.bus i.word x (latest p (take n items))) form in
     subst (λ (a : link.Attempt). IsRecorded p.codes a new) (sym grows)
     (took p.codes (latest p (take n items)) old new i.bus i.word h.form form taken was)

@@ -2,7 +2,7 @@
 use Rattle.std.proofs.Common.{◌≡◌, ◌⊎◌, ℕ, zero, suc, ◌+◌, ◌<◌, ◌≤◌, Bool, true, false, List, [], ◌∷◌, ◌++◌, length, take, Option, Some, None, IfSome, IsSomeAnd, is_some, not, slice_get, get_or, length-append, refl, sym, ap, ◌∙◌, subst, inl, inr, arith}
 use Rattle.std.specs.Option.{option_or}
 use Rattle.std.proofs.lemmas.Bool.{cases_order}
-use Rattle.std.proofs.lemmas.Option.{slice_get_read, slice_get_within}
+use Rattle.std.proofs.lemmas.Option.{same_Some, slice_get_read, slice_get_within}
 use Rattle.a429_word.proofs.ListFacts.{some_within}
 use Rattle.a429_profile.specs.Profile.{Contents, IsProfile}
 use Rattle.a429_profile.specs.declared.codes.Codes.{Codes}
@@ -17,9 +17,9 @@ use Rattle.a429_link.proofs.AssignedSteps.{some_attempts}
 use Rattle.a429_link.specs.Number.{next_number, number_after}
 use Rattle.a429_search.specs.declared.attempts.Attempt.{Attempt}
 use Rattle.a429_search.specs.declared.attempts.StartWord.{StartWord}
+use Rattle.a429_merge.specs.declared.budget.Cut.{Cut}
 use Rattle.a429_merge.specs.declared.pieces.EndWord.{EndWord}
 use Rattle.a429_search.specs.declared.groups.Group.{Group}
-use Rattle.a429_search.specs.declared.searching.CutAt.{CutAt}
 use Rattle.a429_search.specs.declared.searching.Hypothesis.{Hypothesis}
 use Rattle.a429_search.specs.declared.standing.Standing.{Standing}
 use Rattle.a429_search.specs.declared.standing.Ways.{Ways}
@@ -33,9 +33,6 @@ use Rattle.a429_contradiction.proofs.RivalFacts.{get_push}
 use Rattle.a429_search.proofs.StandingFacts.{at_stands, fewer_later, fewer_stands}
 
 -- ---- one more hypothesis
-
-some_is : (a b : Hypothesis) → Some a ≡ Some b → a ≡ b
-some_is a b e = cc e
 
 module _ (old new : List Hypothesis) (h : Hypothesis) (is : new ≡ old ++ h ∷ []) where
   pub at_pushed : (start : Option UnitNumber) → IfSome start (λ n. IsAt n h.standing) → AreAt start old → AreAt start new
@@ -119,7 +116,7 @@ pub one_carried : (p : Contents) (hyps next : List Hypothesis) (t : Assigned) (n
     → AreCovered p next t
 one_carried p hyps next t n x at before here k h l is covers = elim (cases_order k n) [
   | inl same ↦
-      let one : h ≡ x = some_is h x (sym is ∙ ap (slice_get hyps) same ∙ at) in here (subst (λ (y : Hypothesis). Covers p y t) one covers)
+      let one : h ≡ x = same_Some h x (sym is ∙ ap (slice_get hyps) same ∙ at) in here (subst (λ (y : Hypothesis). Covers p y t) one covers)
   | inr (inl less) ↦ before k h less is covers
   | inr (inr more) ↦ absurd (omega (arith, l, more))
 ]
@@ -144,7 +141,7 @@ pub fewest_is : (hyps : List Hypothesis) (place : ℕ) (x : Hypothesis) → HasF
     → (k : ℕ) (h : Hypothesis) → slice_get hyps k ≡ Some h → all_give_ups x.standing ≤ all_give_ups h.standing
 fewest_is hyps place x (best, at, few) is k h there =
     let here = slice_get_read hyps (length hyps) place x refl (slice_get_within hyps place best at) is in
-    let same = some_is best x (sym at ∙ here) in
+    let same = same_Some best x (sym at ∙ here) in
     subst (λ (y : Hypothesis). all_give_ups y.standing ≤ all_give_ups h.standing) same (few k h there)
 
 -- ---- after an acknowledgement
@@ -152,7 +149,7 @@ fewest_is hyps place x (best, at, few) is k h there =
 named_of : (o : Option StartWord) (s : StartWord) (m : UnitNumber) → o ≡ Some s → IfSome o (λ x. x.number ≡ m) → s.number ≡ m
 named_of o s m is h = subst (λ (q : Option StartWord). IfSome q (λ x. x.number ≡ m)) is h
 
-at_of : (o : Option StartWord) (s : StartWord) (hyps : List Hypothesis)
+pub at_of : (o : Option StartWord) (s : StartWord) (hyps : List Hypothesis)
     → o ≡ Some s → AreAt (number_of o) hyps → (k : ℕ) (h : Hypothesis) → slice_get hyps k ≡ Some h → IsAt s.number h.standing
 at_of o s hyps is h = subst (λ (q : Option StartWord). AreAt (number_of q) hyps) is h
 
@@ -259,7 +256,7 @@ moved_one p t xs ys h g stands group c = by xs c.place c.is
     later z l f = record { place = suc f.place; hypothesis = f.hypothesis; is = f.is; covers = f.covers }
 
     by : (zs : List Hypothesis) (k : ℕ) → slice_get (zs ++ h ∷ ys) k ≡ Some c.hypothesis → Found ((zs ++ g ∷ []) ++ ys)
-    by [] zero is = record { place = 0; hypothesis = g; is = refl; covers = covers c.hypothesis (sym (some_is h c.hypothesis is)) c.covers }
+    by [] zero is = record { place = 0; hypothesis = g; is = refl; covers = covers c.hypothesis (sym (same_Some h c.hypothesis is)) c.covers }
     by [] (suc k) is = record { place = suc k; hypothesis = c.hypothesis; is = is; covers = c.covers }
     by (z ∷ zs) zero is = record { place = 0; hypothesis = c.hypothesis; is = is; covers = c.covers }
     by (z ∷ zs) (suc k) is = later z ((zs ++ g ∷ []) ++ ys) (by zs k is)
@@ -289,7 +286,7 @@ pub is_refused : (p : Contents) (items : List Seen) (from to : ℕ) (hyps : List
 is_refused p items from to hyps a q same is none = (a, is, subst (λ (r : Contents). FitsNone r hyps a) same none)
 
 -- where nothing is left out, no search was cut short
-pub none_cut : (o : Option CutAt) → leaves_nothing_out o ≡ true → o ≡ None
+pub none_cut : (o : Option Cut) → leaves_nothing_out o ≡ true → o ≡ None
 none_cut None e = refl
 none_cut (Some c) e = absurd (cc e)
 
@@ -332,8 +329,14 @@ pub no_cut : {X : Type 0} (o q : Option X) → option_or o q ≡ None → (o ≡
 no_cut None q e = (refl, e)
 no_cut (Some x) q e = absurd (cc e)
 
+-- where a search was cut short first: before, or at this entry
+pub first_cut : (o q : Option Cut) (entry : ℕ) → IfSome q (λ c. c.entry ≡ entry) → IfSome (option_or o q) (λ c. (c.entry ≡ entry) ⊎ (o ≡ Some c))
+first_cut None None entry at = tt
+first_cut None (Some c) entry at = inl at
+first_cut (Some c) q entry at = inr refl
+
 -- where each cut before was at a request, and this attempt has one, so is a cut after it
-pub at_request : (p : Contents) (items : List Seen) (one other : Option CutAt) (from at : ℕ) (new : Option CutAt)
+pub at_request : (p : Contents) (items : List Seen) (one other : Option Cut) (from at : ℕ) (new : Option Cut)
     → at ≡ from → IsRequestAt p items from → IsAtRequest p items one → IsAtRequest p items other → AreCuts one other at new
     → IsAtRequest p items new
 at_request p items one other from at None same here h k cuts = tt
@@ -341,14 +344,9 @@ at_request p items one other from at (Some c) same here h k (inl is) = subst (Is
 at_request p items one other from at (Some c) same here h k (inr (inl is)) = subst (IsAtRequest p items) is h
 at_request p items one other from at (Some c) same here h k (inr (inr is)) = subst (IsAtRequest p items) is k
 
--- nothing is left out exactly where there is no cut
-pub was_none : {X : Type 0} (o : Option X) (b : Bool) → is_some o ≡ not b → b ≡ true → o ≡ None
-was_none None b is e = refl
-was_none (Some x) b is e = absurd (cc (is ∙ ap not e))
-
 pub none_whole : {X : Type 0} (o : Option X) (b : Bool) → is_some o ≡ not b → o ≡ None → b ≡ true
 none_whole o true is e = refl
 none_whole o false is e = absurd (cc (sym (ap is_some e) ∙ is))
 
-pub whole_old : (o : Option CutAt) → o ≡ None → leaves_nothing_out o ≡ true
+pub whole_old : (o : Option Cut) → o ≡ None → leaves_nothing_out o ≡ true
 whole_old o e = ap leaves_nothing_out e

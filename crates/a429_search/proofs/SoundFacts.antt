@@ -1,7 +1,7 @@
 -- That hypotheses make nothing up: what they say of the last attempt is the end of an assignment of all.
 use Rattle.std.proofs.Common.{◌≡◌, ◌↔◌, ◌⊎◌, ℕ, zero, suc, ◌+◌, ◌≤◌, Bool, true, false, List, [], ◌∷◌, ◌++◌, length, take, Option, Some, None, IfSome, is_some, slice_get, refl, sym, ap, ◌∙◌, subst, inl, inr, arith}
 use Rattle.std.proofs.lemmas.List.{take_all}
-use Rattle.a429_word.proofs.ListFacts.{some_within}
+use Rattle.a429_word.proofs.ListFacts.{next_item, some_within}
 use Rattle.a429_profile.specs.Profile.{Contents, IsProfile}
 use Rattle.a429_profile.specs.declared.codes.Codes.{Codes}
 use Rattle.a429_ldu.specs.Ldu.{LduValue}
@@ -10,8 +10,7 @@ use Rattle.a429_link.specs.declared.seen.Seen.{Seen}
 use Rattle.a429_link.specs.Assignment.{AreAssigned, Assigned, ComesTo, GoOnAssigned, IsAssignable, IsNext, IsOf, IsSound}
 use Rattle.a429_link.specs.Attempt.{Attempt, attempts, latest}
 use Rattle.a429_link.specs.Run.{BeginsARun}
-use Rattle.a429_link.specs.Observer.{Allows, AllowsNext, AreAllowed, Observer, at_first, observed, sees}
-use Rattle.a429_link.proofs.Contradictions.{next_item}
+use Rattle.a429_link.specs.Observer.{AllowsNext, AreAllowed, at_first, observed}
 use Rattle.a429_link.proofs.ObserverMore.{allowed_push}
 use Rattle.a429_link.proofs.RunAssigned.{next_comes}
 use Rattle.a429_explain.specs.Walk.{AreAllowedUpTo}

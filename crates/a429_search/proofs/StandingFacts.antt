@@ -157,11 +157,6 @@ begun_later first s (Some b) r h =
       },
     )
 
--- what holds of a value that may be there holds so of another property
-pub some_too : {X : Type 0} (o : Option X) (F G : X → Type 0) → ((x : X) → F x → G x) → IfSome o F → IfSome o G
-some_too None F G f h = tt
-some_too (Some x) F G f h = f x h
-
 -- the number of a later file's first link data unit is so many files past
 pub number_past : (first : ℕ) (n k : UnitNumber) (d : ℕ)
     → d ≡ (n.file + (256 - k.file)) % 256 → (d ≡ 0 → ⊥) → n.file ≤ 255 → k.file ≤ 255 → n.ldu ≡ first → n ≡ past first k d

@@ -1,5 +1,5 @@
 -- Which verdict `decide` gives (profile).
-use Rattle.std.specs.Prelude.{◌≡◌, ◌+◌, ◌≤◌, ◌<◌, ◌⊎◌, ℕ, IfSome, IsSome, List, Option, None, Some, length, slice_get, take}
+use Rattle.std.specs.Prelude.{◌≡◌, ◌+◌, ◌≤◌, ◌<◌, ◌⊎◌, ℕ, IfSome, IsSomeAnd, List, Option, None, Some, length, slice_get, take}
 use Rattle.a429_profile.specs.Profile.{Contents}
 use Rattle.a429_link.specs.declared.seen.Seen.{Seen}
 use Rattle.a429_cert.specs.Explained.{IsExplained}
@@ -23,7 +23,6 @@ use Rattle.a429_search.specs.declared.deciding.Written.{Written}
 use Rattle.a429_search.specs.declared.deciding.Written.TheVariants as written
 use Rattle.a429_merge.specs.Budget.{IsReached}
 use Rattle.a429_merge.specs.declared.budget.Cut.{Cut}
-use Rattle.a429_merge.specs.declared.budget.Limit.{Limit}
 use Rattle.a429_search.specs.Frontier.{IsSureUnless}
 use Rattle.a429_search.specs.Recorded.{IsRequestAt}
 use Rattle.a429_contradiction.specs.Contradiction.{ContradictsAt, HasNoContradiction, HasNoneBefore, HasNoRun, IsFirstContradiction}
@@ -69,7 +68,7 @@ IsJudged p items (judged.CutShort at) = IsRequestAt p items at.entry × HasNoCon
 
 -- the same, with the run that is guessed written down
 abbrev pub IsWritten : Contents → List Seen → Written → Type 0
-IsWritten p items (written.NoRun c cut) = IsNoRunUnlessCut p items c cut × IfSome cut IsReached
+IsWritten p items (written.NoRun c cut) = IsNoRunUnlessCut p items c cut
 IsWritten p items (written.Run e) = IsExplanationOf p items e × HasNoContradiction p items (length items)
 IsWritten p items (written.Begun i) = (i < length items) × BeginsARun p items × HasNoContradiction p items (length items)
 IsWritten p items (written.CutShort at) = IsRequestAt p items at.entry × HasNoContradiction p items (length items)
@@ -108,16 +107,16 @@ IsOfCheck p items (Impossible i reason) = Unit {0}
 IsOfCheck p items (Unexplained i doubt) = HasDoubt p items
 
 -- a yes, with a certificate that explains these words; or an item such that no run's trace begins with the words up to it, and some run's
--- trace with those before it, unless the search was cut short; or a request at which it was cut short; or some run's trace begins with all
--- these words
-abbrev pub IsExactly : Contents → List Seen → Option Limit → Verdict → Type 0
+-- trace with those before it, unless the search was cut short; or the request at which it was cut short; or some run's trace begins with
+-- all these words
+abbrev pub IsExactly : Contents → List Seen → Option Cut → Verdict → Type 0
 IsExactly p items cut (Explained certificate files) = IsExplained p certificate items files
 IsExactly p items cut (Impossible i reason) = (i < length items) × HasNoRun p items i × (cut ≡ None → BeginsARun p (take i items))
-IsExactly p items cut (Unexplained i OutOfSteps) = IsSome cut × IsRequestAt p items i
+IsExactly p items cut (Unexplained i OutOfSteps) = IsSomeAnd cut (λ c. c.entry ≡ i) × IsRequestAt p items i
 IsExactly p items cut (Unexplained i NotReplayed) = BeginsARun p items
 IsExactly p items cut (Unexplained i doubt) = ⊥
 
--- so the verdict is, by the limit by which its search was cut short; and a limit that is named was reached
-pub record IsExact (p : Contents) (items : List Seen) (cut : Option Limit) (v : Verdict) : Type 0 where
+-- the verdict is exact (`IsExactly`); `cut` says where and by which limit its search was cut short, if it was, and that limit was reached
+pub record IsExact (p : Contents) (items : List Seen) (cut : Option Cut) (v : Verdict) : Type 0 where
   pub verdict : IsExactly p items cut v
-  pub reached : IfSome cut IsReached
+  pub reached : IfSome cut (λ c. IsReached c.by.limit)

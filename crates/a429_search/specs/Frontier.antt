@@ -10,11 +10,11 @@ use Rattle.a429_explain.specs.Decoded.{HeardValue}
 use Rattle.a429_explain.specs.Guess.{IsGuess}
 use Rattle.a429_search.specs.declared.attempts.Attempt.{Attempt}
 use Rattle.a429_search.specs.declared.groups.Group.{Group}
-use Rattle.a429_search.specs.declared.searching.CutAt.{CutAt}
 use Rattle.a429_search.specs.declared.searching.Hypothesis.{Hypothesis}
 use Rattle.a429_search.specs.declared.standing.Standing.{Standing}
 use Rattle.a429_search.specs.declared.searching.Found.{Found}
 use Rattle.a429_search.specs.declared.searching.Found.TheVariants as found
+use Rattle.a429_merge.specs.declared.budget.Cut.{Cut}
 use Rattle.a429_merge.specs.Block.{MayBeUnitOf}
 use Rattle.a429_contradiction.specs.Contradiction.{HasNoRun}
 use Rattle.a429_search.specs.Recorded.{IsAttemptFrom, IsRequestAt, MayBeTo}
@@ -150,19 +150,19 @@ pub record TakesOn (p : Contents) (hyps : List Hypothesis) (a : Attempt) (new : 
 -- ---- where a search was cut short
 
 -- nowhere, so that nothing is left out
-abbrev pub leaves_nothing_out : Option CutAt → Bool
+abbrev pub leaves_nothing_out : Option Cut → Bool
 leaves_nothing_out o = not (is_some o)
 
 -- at the request of this attempt, or where one of two searches was before
-abbrev pub AreCuts : Option CutAt → Option CutAt → ℕ → Option CutAt → Type 0
+abbrev pub AreCuts : Option Cut → Option Cut → ℕ → Option Cut → Type 0
 AreCuts one other entry new = IfSome new (λ c. (c.entry ≡ entry) ⊎ ((one ≡ Some c) ⊎ (other ≡ Some c)))
 
 -- at a request, if it was cut short
-abbrev pub IsAtRequest : Contents → List Seen → Option CutAt → Type 0
+abbrev pub IsAtRequest : Contents → List Seen → Option Cut → Type 0
 IsAtRequest p items o = IfSome o (λ c. IsRequestAt p items c.entry)
 
 -- some run's words begin with these, unless the search was cut short at a request
-pub record IsSureUnless (p : Contents) (items : List Seen) (unsure : Option CutAt) : Type 0 where
+pub record IsSureUnless (p : Contents) (items : List Seen) (unsure : Option Cut) : Type 0 where
   pub at : IsAtRequest p items unsure
   pub sure : unsure ≡ None → BeginsARun p items
 

@@ -2,7 +2,6 @@
 //! the first word at which no run goes on.
 
 ghost use Rattle.std.specs.Prelude.{◌≡◌, ℕ, true, Ok, IfOk, IfSome, is_some, length};
-ghost use Rattle.a429_merge.specs.Budget.{IsReached};
 ghost use Rattle.a429_cert.specs.Explained.{items_of};
 ghost use Rattle.a429_explain.specs.Verdict.{IsSoundVerdict, IsOfSomeRun, IsAccepted, IsOfLeastVersion, IsDoubted, HasNoForm, IsImpossibility, IsExplanation};
 ghost use Rattle.a429_explain.specs.Walk.{AreAllowedUpTo};
@@ -10,13 +9,13 @@ ghost use Rattle.a429_explain.specs.WithoutLoss.{IsWithoutLoss};
 ghost use Rattle.a429_link.specs.Run.{BeginsARun};
 ghost use Rattle.a429_search.specs.Deciding.{IsExact, IsImpossibleBy, IsImpossibleUpTo, IsJudged, IsLookedBefore, IsOfCheck, IsReasonAt, IsSearchedBefore, IsWritten};
 
-use crate::searching::{CutAt, Found, cut_of, search_for_run};
+use crate::searching::{Found, search_for_run};
 use a429_cert::OutOfMemory;
 use a429_contradiction::laws::what_contradicts_has_no_run;
 use a429_contradiction::{Contradiction, first_contradiction};
 use a429_explain::walk::walk;
 use a429_explain::{Doubt, Explanation, Guess, Reason, Refusal, Verdict, check, explain_by};
-use a429_merge::{Cut, Limit};
+use a429_merge::Cut;
 use a429_profile::Profile;
 use a429_record::Entry;
 use std::alloc::Global;
@@ -25,9 +24,9 @@ use std::alloc::Global;
 #[derive(Drop)]
 pub struct Decision {
     pub verdict: Verdict,
-    /// The limit that was reached, where the search for a run was cut short. Only then the doubt is `OutOfSteps`, and only then an entry
-    /// before one that is impossible may be so, too.
-    pub cut: Option<Limit>,
+    /// Where the search for a run was cut short, and by which limit, which was reached there. Only then the doubt is `OutOfSteps`, and only
+    /// then an entry before one that is impossible may be so, too.
+    pub cut: Option<Cut>,
 }
 
 // What is found of words that are allowed.
@@ -41,10 +40,10 @@ enum Judged {
     // What is guessed of a run, and where the search was cut short, if it is not sure that there is one.
     Guessed {
         guess: Guess,
-        unsure: Option<CutAt>,
+        unsure: Option<Cut>,
     },
     // Neither: the search was cut short.
-    CutShort(CutAt),
+    CutShort(Cut),
 }
 
 // What is found of words that are allowed, once the run that was guessed is written down.
@@ -52,12 +51,12 @@ enum Judged {
 enum Written {
     NoRun {
         found: Contradiction,
-        cut: Option<Limit>,
+        cut: Option<Cut>,
     },
     Run(Explanation),
     // Some run's words begin with these, and the steps that were guessed cannot be made at this entry.
     Begun(usize),
-    CutShort(CutAt),
+    CutShort(Cut),
 }
 
 // What is found before an entry: one with which no run goes on, if there is one. Where the search was not cut short, some run's words begin
@@ -95,7 +94,6 @@ pub fn decide(alloc: Global, profile: &Profile, entries: &[Entry]) -> Result<Dec
         }),
         Verdict::Impossible { entry, reason } => {
             let Before { found, cut } = look_before(alloc, profile, &entries[..entry])?;
-            let cut = limit_of(cut);
             match found {
                 Some(Contradiction { entry, reason }) => {
                     let verdict = Verdict::Impossible { entry, reason };
@@ -122,24 +120,13 @@ pub fn decide(alloc: Global, profile: &Profile, entries: &[Entry]) -> Result<Dec
                 let verdict = Verdict::Unexplained { entry, doubt };
                 Ok(Decision { verdict, cut: None })
             }
-            Written::CutShort(at) => {
-                let (entry, doubt) = (at.entry, Doubt::OutOfSteps);
+            Written::CutShort(cut) => {
+                let (entry, doubt) = (cut.entry(), Doubt::OutOfSteps);
                 let verdict = Verdict::Unexplained { entry, doubt };
-                let cut = limit_of(Some(at.cut));
+                let cut = Some(cut);
                 Ok(Decision { verdict, cut })
             }
         },
-    }
-}
-
-// Which limit was reached.
-fn limit_of(cut: Option<Cut>) -> Option<Limit>
-    ensures some { is_some result ≡ is_some cut }
-    ensures reached { IfSome result IsReached }
-{
-    match cut {
-        Some(cut) => Some(cut.limit()),
-        None => None,
     }
 }
 
@@ -172,11 +159,11 @@ fn look_before(alloc: Global, profile: &Profile, entries: &[Entry]) -> Result<Be
             let found = Some(found);
             Ok(Before { found, cut })
         }
-        Judged::Guessed { unsure, .. } => {
-            let cut = cut_of(unsure);
-            Ok(Before { found: None, cut })
-        }
-        Judged::CutShort(CutAt { cut, .. }) => {
+        Judged::Guessed { unsure, .. } => Ok(Before {
+            found: None,
+            cut: unsure,
+        }),
+        Judged::CutShort(cut) => {
             let cut = Some(cut);
             Ok(Before { found: None, cut })
         }
@@ -189,21 +176,18 @@ fn write_down(alloc: Global, profile: &Profile, entries: &[Entry]) -> Result<Wri
     ensures { IfOk result (IsWritten profile.now (items_of entries.now)) }
 {
     match look_closer(alloc, profile, entries)? {
-        Judged::NoRun { found, cut } => {
-            let cut = limit_of(cut);
-            Ok(Written::NoRun { found, cut })
-        }
+        Judged::NoRun { found, cut } => Ok(Written::NoRun { found, cut }),
         Judged::Guessed { guess, unsure } => {
             match explain_by(alloc, profile, entries, guess) {
                 Ok(explanation) => Ok(Written::Run(explanation)),
                 Err(Refusal::NotReplayed { entry }) => match unsure {
-                    Some(at) => Ok(Written::CutShort(at)),
+                    Some(cut) => Ok(Written::CutShort(cut)),
                     None => Ok(Written::Begun(entry)),
                 },
                 Err(Refusal::OutOfMemory) => Err(OutOfMemory),
             }
         }
-        Judged::CutShort(at) => Ok(Written::CutShort(at)),
+        Judged::CutShort(cut) => Ok(Written::CutShort(cut)),
     }
 }
 
@@ -236,7 +220,7 @@ fn look_closer(alloc: Global, profile: &Profile, entries: &[Entry]) -> Result<Ju
             let found = Contradiction { entry, reason };
             Ok(Judged::NoRun { found, cut })
         }
-        Ok(Found::CutShort(at)) => Ok(Judged::CutShort(at)),
+        Ok(Found::CutShort(cut)) => Ok(Judged::CutShort(cut)),
         Err(_) => Err(OutOfMemory),
     }
 }
@@ -255,11 +239,11 @@ fn search_before(alloc: Global, profile: &Profile, entries: &[Entry]) -> Result<
             let found = Some(Contradiction { entry, reason });
             Ok(Before { found, cut })
         }
-        Ok(Found::Run { unsure, .. }) => {
-            let cut = cut_of(unsure);
-            Ok(Before { found: None, cut })
-        }
-        Ok(Found::CutShort(CutAt { cut, .. })) => {
+        Ok(Found::Run { unsure, .. }) => Ok(Before {
+            found: None,
+            cut: unsure,
+        }),
+        Ok(Found::CutShort(cut)) => {
             let cut = Some(cut);
             Ok(Before { found: None, cut })
         }

@@ -1,6 +1,6 @@
 //! Groups: attempts of one link data unit.
 
-ghost use Rattle.std.specs.Prelude.{◌≡◌, ◌≤◌, ℕ, Ok, None, true, false, IfNone, IfOk, IfSome, IsTrue, SomeIndex, length};
+ghost use Rattle.std.specs.Prelude.{◌≡◌, ◌≤◌, ℕ, Ok, None, true, false, IfNone, IfOk, IfSome, IsSome, IsTrue, SomeIndex};
 ghost use Rattle.a429_link.specs.Run.{IsSubsequenceOf};
 ghost use Rattle.a429_merge.specs.Order.{lists_of, words_at};
 ghost use Rattle.a429_profile.specs.Profile.{Contents};
@@ -10,7 +10,7 @@ ghost use Rattle.a429_search.specs.Recorded.{Agree, MayBeOf};
 
 use crate::attempts::Attempt;
 use a429_ldu::{Ldu, LduFault};
-use a429_merge::{Budget, EndWord, GroupPieces, Limit, is_in_some, lists_with, unit_of_pieces};
+use a429_merge::{Budget, EndWord, GroupPieces, is_in_some, lists_with, unit_of_pieces};
 use a429_profile::Profile;
 use std::alloc::{AllocError, Global};
 
@@ -39,6 +39,7 @@ impl Group {
         ensures unit { IfOk result (λ found. IfSome found (λ g. MayBeUnitOf profile.now g.pieces g.unit)) }
         ensures none { result ≡ Ok None → budget.new.cut ≡ None → (u : LduValue) → ¬ MayBeOf profile.now attempt.now u }
         ensures cut { budget.new.cut ≡ None → budget.old.cut ≡ None }
+        ensures entry { budget.new.entry ≡ budget.old.entry }
     {
         let mut attempts = Vec::new(alloc);
         attempts.push(Vec::from_slice(alloc, &attempt.words)?)?;
@@ -69,6 +70,7 @@ impl Group {
         ensures unit { MayBeUnitOf profile.now self.now.pieces self.now.unit → IfOk result (λ found. IfSome found (λ g. MayBeUnitOf profile.now g.pieces g.unit)) }
         ensures none { result ≡ Ok None → budget.new.cut ≡ None → (u : LduValue) → MayBeUnitOf profile.now self.now.pieces u → ¬ MayBeOf profile.now attempt.now u }
         ensures cut { budget.new.cut ≡ None → budget.old.cut ≡ None }
+        ensures entry { budget.new.entry ≡ budget.old.entry }
     {
         if self.contradicts(attempt) {
             return Ok(None);
@@ -79,8 +81,6 @@ impl Group {
         budget.spend(self.steps_to_compare());
         let is_new = !is_in_some(&attempt.words, &self.pieces.attempts);
         let Some(pieces) = self.pieces_with(alloc, attempt, is_new, budget)? else {
-            let recorded = self.pieces.attempts.len() + 1;
-            budget.cut(Limit::Attempts { recorded });
             return Ok(None);
         };
         let at = self.at;
@@ -110,7 +110,8 @@ impl Group {
         many.saturating_mul(usize::from(self.pieces.count))
     }
 
-    // What was recorded, with one more attempt, whose data words are new or not. `None` where there would be too many.
+    // What was recorded, with one more attempt, whose data words are new or not. `None` where there would be too many, and then a search
+    // is cut short.
     fn pieces_with(
         &self,
         alloc: Global,
@@ -122,8 +123,9 @@ impl Group {
         ensures covers { IfOk result (λ found. IfSome found (λ g. (p : Contents) (u : LduValue) → MayBeUnitOf p self.now.pieces u → MayBeOf p attempt.now u → MayBeUnitOf p g u)) }
         ensures only { Agree self.now.pieces attempt.now → IfOk result (λ found. IfSome found (λ g. (p : Contents) (u : LduValue) → MayBeUnitOf p g u → MayBeUnitOf p self.now.pieces u × MayBeOf p attempt.now u)) }
         ensures same { is_new ≡ false → IfOk result (λ found. IfSome found (λ g. (g.gfi ≡ self.now.pieces.gfi) → (g.end ≡ self.now.pieces.end) → (p : Contents) (u : LduValue) → MayBeUnitOf p self.now.pieces u → MayBeUnitOf p g u)) }
-        ensures none { IfOk result (λ found. IfNone found (16 ≤ length self.now.pieces.attempts.items)) }
-        ensures cut { budget.new.cut ≡ budget.old.cut }
+        ensures none { IfOk result (λ found. IfNone found (IsSome budget.new.cut)) }
+        ensures cut { budget.new.cut ≡ None → budget.old.cut ≡ None }
+        ensures entry { budget.new.entry ≡ budget.old.entry }
     {
         let taken = &self.pieces.attempts;
         let Some(attempts) = lists_with(alloc, taken, &attempt.words, is_new, budget)? else {
@@ -179,6 +181,7 @@ fn unit_found(
     ensures some { IfOk result (λ found. IfSome found (MayBeUnitOf profile.now pieces.now)) }
     ensures exact { result ≡ Ok None → budget.new.cut ≡ None → (u : LduValue) → ¬ MayBeUnitOf profile.now pieces.now u }
     ensures cut { budget.new.cut ≡ None → budget.old.cut ≡ None }
+    ensures entry { budget.new.entry ≡ budget.old.entry }
 {
     if budget.runs_out() {
         return Ok(None);

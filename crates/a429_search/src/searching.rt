@@ -35,24 +35,15 @@ pub(crate) struct Hypothesis {
     pub closed: Option<usize>,
 }
 
-/// Where a search was cut short.
-#[derive(Clone, Copy)]
-pub(crate) struct CutAt {
-    /// The entry of the request of the attempt at which it was, counted from 0.
-    pub entry: usize,
-    /// The limit that was reached there.
-    pub cut: Cut,
-}
-
 /// What a search finds.
 #[derive(Drop)]
 pub(crate) enum Found {
     /// What is guessed of a run, and where the search was cut short, if it is not sure that some run's words begin with these.
-    Run { guess: Guess, unsure: Option<CutAt> },
+    Run { guess: Guess, unsure: Option<Cut> },
     /// No run's words begin with those up to this entry. Where the search was not cut short, some run's words begin with those before it.
     NoRun { entry: usize, cut: Option<Cut> },
     /// Neither: the search was cut short.
-    CutShort(CutAt),
+    CutShort(Cut),
 }
 
 // Where an attempt stops fitting hypotheses.
@@ -86,9 +77,9 @@ struct Carrier<'a> {
 struct Search<'a> {
     hypotheses: Vec<Hypothesis>,
     // Where the search was cut short, if the hypotheses may leave something out that the source may have done.
-    left_out: Option<CutAt>,
+    left_out: Option<Cut>,
     // And if they may make something up: that what each of them says the source can have done is not sure.
-    unsure: Option<CutAt>,
+    unsure: Option<Cut>,
     carrier: Carrier<'a>,
 }
 
@@ -110,7 +101,7 @@ pub(crate) fn search_for_run(alloc: Global, decoded: &Decoded) -> Result<Found, 
             let unsure = search.unsure;
             let misfit = search.misfit(decoded, from, to)?;
             let entry = misfit.entry;
-            let cut = cut_of(unsure).or(misfit.cut);
+            let cut = unsure.or(misfit.cut);
             return Ok(Found::NoRun { entry, cut });
         }
         from = to;
@@ -126,16 +117,6 @@ pub(crate) fn search_for_run(alloc: Global, decoded: &Decoded) -> Result<Found, 
             Some(cut) => Ok(Found::CutShort(cut)),
             None => unreachable!(),
         },
-    }
-}
-
-/// The limit that was reached.
-pub(crate) fn cut_of(at: Option<CutAt>) -> Option<Cut>
-    ensures { result ≡ None → at ≡ None }
-{
-    match at {
-        Some(at) => Some(at.cut),
-        None => None,
     }
 }
 
@@ -173,7 +154,7 @@ impl<'a> Search<'a> {
         ensures cuts { IfOk result (λ goes_on. AreCuts self.old.left_out self.old.unsure attempt.now.at self.new.left_out × AreCuts self.old.left_out self.old.unsure attempt.now.at self.new.unsure) }
     {
         let next = self.carrier.carried(profile, &self.hypotheses, attempt)?;
-        let left_out = self.cut_at(attempt.at);
+        let left_out = self.cut();
         let is_whole = left_out.is_none();
         if is_whole && are_none(&next) {
             return Ok(false);
@@ -186,7 +167,7 @@ impl<'a> Search<'a> {
         let heard = self.carrier.heard(profile, &next, is_whole, attempt)?;
         let Some(heard) = heard else {
             // (where no search was cut short, no link data unit is that of the attempt)
-            let Some(cut) = self.cut_at(attempt.at) else {
+            let Some(cut) = self.cut() else {
                 return Ok(false);
             };
             self.left_out = Some(cut);
@@ -215,19 +196,13 @@ impl<'a> Search<'a> {
         self.carrier.misfit(decoded, hypotheses, from, to)
     }
 
-    // Where the search was cut short, if something was left out before, or at the last attempt, whose request is this entry.
-    fn cut_at(&self, entry: usize) -> Option<CutAt>
+    // Where the search was cut short, if something was left out before, or at the last attempt.
+    fn cut(&self) -> Option<Cut>
         ensures whole { result ≡ None → self.now.left_out ≡ None }
         ensures uncut { result ≡ None → self.now.carrier.budget.cut ≡ None }
-        ensures at { IfSome result (λ c. (c.entry ≡ entry) ⊎ (self.now.left_out ≡ Some c)) }
+        ensures at { IfSome result (λ c. (c.entry ≡ self.now.carrier.budget.entry) ⊎ (self.now.left_out ≡ Some c)) }
     {
-        if self.left_out.is_some() {
-            return self.left_out;
-        }
-        match self.carrier.budget.cut_by() {
-            Some(cut) => Some(CutAt { entry, cut }),
-            None => None,
-        }
+        self.left_out.or(self.carrier.budget.cut())
     }
 
     // What is guessed by the hypothesis with the fewest files given up; `None` where none is left.
@@ -276,8 +251,9 @@ impl<'a> Carrier<'a> {
         ensures covers { IfOk result (λ next. self.new.budget.cut ≡ None → CarriesOn profile.now hypotheses.now attempt.now next.items) }
         ensures at { IfOk result (λ next. AreAt (number_of attempt.now.start) next.items) }
         ensures only { IfOk result (λ next. AreReal profile.now hypotheses.now → AreCarried profile.now hypotheses.now attempt.now next.items) }
+        ensures entry { OnOk result (self.new.budget.entry ≡ attempt.now.at) }
     {
-        self.budget = self.budget.afresh();
+        self.budget = self.budget.afresh(attempt.at);
         let mut next = Vec::new(self.alloc);
         for place in 0..hypotheses.len() {
             self.carry_on(profile, &hypotheses[place], attempt, &mut next)?;
@@ -343,7 +319,7 @@ impl<'a> Carrier<'a> {
         if !are_none(&next) {
             return Ok(Fit::One);
         }
-        match self.budget.cut_by() {
+        match self.budget.cut() {
             Some(cut) => Ok(Fit::Open(cut)),
             None => Ok(Fit::None),
         }
@@ -362,6 +338,7 @@ impl<'a> Carrier<'a> {
         ensures at { OnOk result (AreAt (number_of attempt.now.start) next.old.items → AreAt (number_of attempt.now.start) next.new.items) }
         ensures only { OnOk result (IsReal profile.now hypothesis.now.standing hypothesis.now.group → AddCarried profile.now hypothesis.now attempt.now next.old.items next.new.items) }
         ensures cut { self.new.budget.cut ≡ None → self.old.budget.cut ≡ None }
+        ensures entry { self.new.budget.entry ≡ self.old.budget.entry }
     {
         let first_ldu = profile.codes().first_ldu;
         let has_group = hypothesis.group.is_some();
@@ -390,6 +367,7 @@ impl<'a> Carrier<'a> {
         ensures only { OnOk result (MakeNothingUp profile.now.codes.first_ldu hypothesis.now.standing (number_of attempt.now.start) (is_some hypothesis.now.group) ways.now → IsReal profile.now hypothesis.now.standing hypothesis.now.group → AddCarried profile.now hypothesis.now attempt.now next.old.items next.new.items) }
         ensures at { OnOk result ((start : Option UnitNumber) → IfSome start (λ n. IfSome ways.now.join (IsAt n)) → AreAt start next.old.items → AreAt start next.new.items) }
         ensures cut { self.new.budget.cut ≡ None → self.old.budget.cut ≡ None }
+        ensures entry { self.new.budget.entry ≡ self.old.budget.entry }
     {
         let Some(standing) = ways.join else {
             return Ok(false);
@@ -420,6 +398,7 @@ impl<'a> Carrier<'a> {
         ensures only { OnOk result (MakeNothingUp profile.now.codes.first_ldu hypothesis.now.standing (number_of attempt.now.start) (is_some hypothesis.now.group) ways.now → IsReal profile.now hypothesis.now.standing hypothesis.now.group → AddCarried profile.now hypothesis.now attempt.now next.old.items next.new.items) }
         ensures at { OnOk result ((start : Option UnitNumber) → IfSome start (λ n. IfSome ways.now.begin (λ b. IsAt n b.1)) → AreAt start next.old.items → AreAt start next.new.items) }
         ensures cut { self.new.budget.cut ≡ None → self.old.budget.cut ≡ None }
+        ensures entry { self.new.budget.entry ≡ self.old.budget.entry }
     {
         let Some((before, standing)) = ways.begin else {
             return Ok(());
@@ -450,6 +429,7 @@ impl<'a> Carrier<'a> {
         ensures unit { IfSome hypothesis.now.group (λ g. MayBeUnitOf profile.now g.pieces g.unit) → IfOk result (λ found. IfSome found (λ g. MayBeUnitOf profile.now g.pieces g.unit)) }
         ensures none { result ≡ Ok None → self.new.budget.cut ≡ None → (u : LduValue) → FitsGroup profile.now hypothesis.now.group u → ¬ MayBeOf profile.now attempt.now u }
         ensures cut { self.new.budget.cut ≡ None → self.old.budget.cut ≡ None }
+        ensures entry { self.new.budget.entry ≡ self.old.budget.entry }
     {
         match &hypothesis.group {
             Some(group) => group.with(self.alloc, profile, attempt, &mut self.budget),
@@ -464,6 +444,7 @@ impl<'a> Carrier<'a> {
         heard: Option<usize>,
     ) -> Result<Option<usize>, AllocError>
         ensures cut { self.new.budget.cut ≡ self.old.budget.cut }
+        ensures entry { self.new.budget.entry ≡ self.old.budget.entry }
     {
         if let Some(group) = &hypothesis.group {
             self.budget
@@ -488,6 +469,7 @@ impl<'a> Carrier<'a> {
         ensures none { result ≡ Ok None → self.new.budget.cut ≡ None → (u : LduValue) → ¬ MayBeOf profile.now attempt.now u }
         ensures covers { IfOk result (λ found. IfSome found (λ heard. GoOnFrom profile.now is_whole next.now attempt.now heard.items)) }
         ensures only { IfOk result (λ found. IfSome found (λ heard. is_whole ≡ true → (next.now ≡ [] → ⊥) → (hyps : List Hypothesis) → AreCarried profile.now hyps attempt.now next.now → AreHeard profile.now next.now heard.items)) }
+        ensures entry { self.new.budget.entry ≡ self.old.budget.entry }
     {
         let (Some(start), Some(end)) = (attempt.start, attempt.end) else {
             unreachable!();

@@ -7,7 +7,7 @@ use crate::calls::{read, sample};
 use crate::sample::{PROFILE, with};
 use a429_ldu::{Form, Ldu, Semis, check_word, word_of};
 use a429_merge::{
-    Budget, EndWord, GroupPieces, Wanted, bits_for_check_word, completed, is_in_some,
+    Budget, EndWord, GroupPieces, Limit, Wanted, bits_for_check_word, completed, is_in_some,
     is_subsequence, lists_with, merge_in_one_order, merge_shortest, search_words, unit_of_pieces,
 };
 use a429_profile::{CheckTables, Profile};
@@ -91,7 +91,7 @@ fn holds(alloc: Global, profile: &Profile, case: Case) -> Result<bool, AllocErro
     let attempts = recorded(alloc, profile, attempts)?;
     let mut budget = Budget::of_entries(0);
     let unit = unit_with(alloc, profile, count, check, attempts, &mut budget)?;
-    Ok(unit.is_some() == is_found && budget.cut_by().is_none())
+    Ok(unit.is_some() == is_found && budget.cut().is_none())
 }
 
 // The place of the first case that does not hold.
@@ -221,12 +221,17 @@ fn are_lists(alloc: Global, profile: &Profile) -> Result<bool, AllocError> {
     let seventeenth = words_of(alloc, profile, b"q")?;
     let mut budget = Budget::of_entries(0);
     let kept = lists_with(alloc, &lists, &one, true, &mut budget)?;
-    let none = lists_with(alloc, &others, &seventeenth, true, &mut budget)?;
     let count = match kept {
         Some(kept) => kept.len(),
         None => 0,
     };
-    Ok(count == 3 && none.is_none() && !is_in_some(&one, &lists))
+    let is_kept = count == 3 && budget.cut().is_none();
+    let none = lists_with(alloc, &others, &seventeenth, true, &mut budget)?;
+    let is_cut = match budget.cut() {
+        Some(cut) => matches!(cut.limit(), Limit::Attempts { recorded: 17 }),
+        None => false,
+    };
+    Ok(is_kept && none.is_none() && is_cut && !is_in_some(&one, &lists))
 }
 
 // The attempts of a group, of one word each; there may be no more of them.
@@ -236,13 +241,22 @@ const LETTERS: [&str; 16] = [
 
 // Whether the steps of a recording of one entry are counted up to the last, and a budget taken afresh has no more of them.
 fn are_steps_counted() -> bool {
-    let mut budget = Budget::of_entries(1);
+    let mut budget = Budget::of_entries(1).afresh(3);
     budget.spend(1_000_000_999);
-    let has_one = !budget.runs_out() && budget.cut_by().is_none();
+    let has_one = !budget.runs_out() && budget.cut().is_none();
     budget.spend(1);
-    let is_out = budget.runs_out() && budget.cut_by().is_some();
-    let mut afresh = budget.afresh();
-    has_one && is_out && afresh.cut_by().is_none() && afresh.runs_out()
+    let is_out = budget.runs_out() && has_no_step_at(&budget, 3);
+    let mut afresh = budget.afresh(4);
+    let is_afresh = afresh.cut().is_none() && afresh.runs_out() && has_no_step_at(&afresh, 4);
+    has_one && is_out && is_afresh
+}
+
+// Whether a search was cut short at this entry, since no step was left.
+fn has_no_step_at(budget: &Budget, entry: usize) -> bool {
+    match budget.cut() {
+        Some(cut) => cut.entry() == entry && matches!(cut.limit(), Limit::Steps { left: 0 }),
+        None => false,
+    }
 }
 
 // The first step that goes otherwise.

@@ -52,9 +52,10 @@ loop-step-preserved-then-step-search t c =
     omega (arith, c.if-step-search.true, c.len-in-loop-step.ensures, ap length c.loop-step.invariant.0) in (
       c.loop-step.invariant.0,
       c.loop-step.invariant.1,
+      c.loop-step.invariant.2,
       (λ uncut. one_more (λ s. IsHopeless p count wanted L s.passed.items (merged ++ s.word ∷ [])) items c.loop-step.step-index s
           c.loop-step-test.true c.step-item.is
-          (hopeless_far p count wanted L ps merged found.0 s found.2 c.requires.short far) (c.loop-step.invariant.2 uncut)),
+          (hopeless_far p count wanted L ps merged found.0 s found.2 c.requires.short far) (c.loop-step.invariant.3 uncut)),
     )
 
 pub loop-step-preserved : goal.loop-step-preserved
@@ -75,12 +76,13 @@ loop-step-preserved t c =
     one_less merged c.extend.new.path.merged.items c.pop.new.self.items s.word (vec_len c.extend.new.path.merged) c.pop.ensures.rest back
     (omega arith) in (
       popped,
-      (λ uncut. c.loop-step.invariant.1 (c.in_ok-found.ensures.cut uncut)),
+      c.in_ok-found.ensures.entry ∙ c.loop-step.invariant.1,
+      (λ uncut. c.loop-step.invariant.2 (c.in_ok-found.ensures.cut uncut)),
       (λ uncut. one_more (λ s. IsHopeless p count wanted L s.passed.items (merged ++ s.word ∷ [])) items c.loop-step.step-index s
           c.loop-step-test.true c.step-item.is
           (subst (λ qs. IsHopeless p count wanted L qs (merged ++ s.word ∷ [])) c.deref.ensures.value
           (subst (IsHopeless p count wanted L c.deref.result.now) pushed (c.in_ok-found.ensures.none (ap Ok none) uncut)))
-          (c.loop-step.invariant.2 (c.in_ok-found.ensures.cut uncut))),
+          (c.loop-step.invariant.3 (c.in_ok-found.ensures.cut uncut))),
     )
 
 pub returns-clause-none : goal.returns-clause-none
@@ -98,4 +100,4 @@ returns-clause-none t c nothing uncut =
     → i < length L → (w : ℕ) → IsNext L ps i w → HasStepOf w items = λ i l w next. subst (HasStepOf w)
     (sym c.deref-step-items.ensures.value) (c.in_ok-steps.ensures.every i (inside_given c.args.search.now.lists.now i l) w next) in
     hopeless_steps p count wanted L ps merged items left are every
-    (λ k d l. c.loop-step.invariant.2 uncut k d (omega (arith, l, c.loop-step-test.false)))
+    (λ k d l. c.loop-step.invariant.3 uncut k d (omega (arith, l, c.loop-step-test.false)))

@@ -11,6 +11,7 @@ decreases-extend l = left_count (lists_of l.search.now.lists.now) l.passed.now
 abbrev pub invariant-loop-step : goal.invariant-loop-step
 invariant-loop-step l =
     (l.path.merged.items ≡ l.fn.path.merged.items) ×
+    (l.budget.entry ≡ l.fn.budget.entry) ×
     (l.budget.cut ≡ None → l.fn.budget.cut ≡ None) ×
     (l.budget.cut ≡ None → (k : ℕ) (d : Step) → k < l.step-index
     → IsHopeless l.search.profile.now l.search.wanted.count l.search.wanted.check (lists_of l.search.lists.now)

@@ -11,4 +11,5 @@ loop-left-preserved c =
       subst (All P) (sym c.in_ok-push-in-Some.ensures.items)
           (All-push P c.loop-left.pairs.items c.in-Some.pair c.loop-left.invariant.0 pair),
       c.in_ok-pair.ensures.cut ∙ c.loop-left.invariant.1,
+      c.in_ok-pair.ensures.entry ∙ c.loop-left.invariant.2,
     )

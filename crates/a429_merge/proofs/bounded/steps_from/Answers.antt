@@ -17,6 +17,7 @@ loop-i-preserved-in_default c =
     c.in_ok-next.ensures.none in (
       steps_without L ps c.loop-i.i c.loop-i.steps.items c.loop-i.others.items c.loop-i.invariant.0 before,
       c.spend.ensures.cut ∙ c.loop-i.invariant.1,
+      c.spend.ensures.entry ∙ c.loop-i.invariant.2,
     )
 
 pub loop-i-preserved : goal.loop-i-preserved
@@ -45,6 +46,7 @@ loop-i-preserved c =
             (steps_other L ps c.loop-i.i best others are made inside b)
       ],
       c.spend.ensures.cut ∙ c.loop-i.invariant.1,
+      c.spend.ensures.entry ∙ c.loop-i.invariant.2,
     )
 
 pub returns-clause-every : goal.returns-clause-every

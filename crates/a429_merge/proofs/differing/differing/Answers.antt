@@ -29,6 +29,7 @@ loop-list-preserved-then-is_in_some c =
       few = c.loop-list.invariant.few;
       most = omega (arith, c.loop-list.invariant.most);
       cut = c.spend.ensures.cut ∙ c.loop-list.invariant.cut;
+      entry = c.spend.ensures.entry ∙ c.loop-list.invariant.entry;
     }
 
 pub loop-list-preserved : goal.loop-list-preserved
@@ -47,6 +48,7 @@ loop-list-preserved c =
       few = omega (arith, c.len.ensures, c.if-len-gt-MOST_ATTEMPTS.false);
       most = omega (arith, c.in_ok-keep.ensures.count, c.loop-list.invariant.most);
       cut = c.spend.ensures.cut ∙ c.loop-list.invariant.cut;
+      entry = c.spend.ensures.entry ∙ c.loop-list.invariant.entry;
     }
 
 pub returns-clause-all : goal.returns-clause-all

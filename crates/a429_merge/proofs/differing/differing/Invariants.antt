@@ -11,4 +11,5 @@ invariant-loop-list l = record {
   few : length l.kept.items ≤ 16;
   most : length l.kept.items ≤ l.list-index;
   cut : l.budget.cut ≡ l.fn.budget.cut;
+  entry : l.budget.entry ≡ l.fn.budget.entry;
 }

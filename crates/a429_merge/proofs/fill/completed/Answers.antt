@@ -1,6 +1,7 @@
 use Rattle.std.proofs.Common.{◌≡◌, ◌<◌, ◌++◌, ◌∷◌, [], ℕ, Option, IfNone, length, Vec, Global, subst, inl}
 use Rattle.a429_merge.specs.Fill.{Fits, CanBeFilled, HasOneByte, data_word}
-use Rattle.a429_merge.proofs.FillFacts.{if_none_from, ok_none, ok_none_from, no_free_word, no_one_byte}
+use Rattle.a429_merge.proofs.FreeBitsFacts.{ok_none_from}
+use Rattle.a429_merge.proofs.FillFacts.{if_none_from, ok_none, no_free_word, no_one_byte}
 use Rattle.a429_merge.proofs.HopelessFacts.{is_none}
 use Rattle.a429_merge.proofs.fill.completed.Goals as goal
 

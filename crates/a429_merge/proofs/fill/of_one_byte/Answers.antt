@@ -1,6 +1,7 @@
 use Rattle.std.proofs.Common.{◌≡◌, ◌%◌, ◌++◌, ◌∷◌, [], ℕ, List, Option, IfNone, Vec, Global, ap, ◌∙◌, subst, arith, below_more}
 use Rattle.a429_merge.specs.Fill.{IsFilled, CanBeFilled, data_word}
-use Rattle.a429_merge.proofs.FillFacts.{if_some_from, without_more}
+use Rattle.std.proofs.lemmas.Option.{IfSome_then}
+use Rattle.a429_merge.proofs.FillFacts.{without_more}
 use Rattle.a429_merge.proofs.HopelessFacts.{is_none}
 use Rattle.a429_merge.proofs.fill.of_one_byte.Goals as goal
 use Rattle.a429_merge.proofs.fill.of_one_byte.Goals.{After-filled_in_front}
@@ -23,11 +24,9 @@ returns-then-is_some-clause-some c =
     let wanted = c.args.wanted.check in
     let recorded = c.args.recorded.now in
     let a = (goal.at.returns-then-is_some-clause-some c).After-filled_in_front in
-    if_some_from (λ (v : Vec ℕ Global). IsFilled p count wanted c.deref.result.now v.items)
-    (λ (v : Vec ℕ Global). IsFilled p count wanted recorded v.items) c.in_ok-found.found
+    IfSome_then c.in_ok-found.found c.in_ok-found.ensures.some
     (λ v f. without_more p count wanted recorded (data_word p.codes (c.loop-last.last ∷ []) ∷ []) v.items
     (subst (λ (ws : List ℕ). IsFilled p count wanted ws v.items) (words a) f))
-    c.in_ok-found.ensures.some
 
 pub loop-last-preserved : goal.loop-last-preserved
 loop-last-preserved c =

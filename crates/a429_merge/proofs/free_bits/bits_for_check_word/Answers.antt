@@ -5,7 +5,7 @@ use Rattle.a429_merge.specs.FreeBits.{with_bits}
 use Rattle.a429_merge.proofs.AffineFacts.{changes}
 use Rattle.a429_profile.specs.declared.codes.Check.{Check}
 use Rattle.a429_ldu.specs.CheckWord.{check_of}
-use Rattle.a429_merge.proofs.FreeBitsFacts.{word_with, start_is, changes_more, length-changes, gives, gives_back, some_both, none_from}
+use Rattle.a429_merge.proofs.FreeBitsFacts.{word_with, start_is, changes_more, length-changes, gives, gives_back, some_both, ok_none_from}
 use Rattle.a429_merge.proofs.free_bits.bits_for_check_word.Goals as goal
 use Rattle.a429_merge.proofs.free_bits.bits_for_check_word.Goals.{After-choose_columns}
 
@@ -68,7 +68,7 @@ returns-clause-none c =
     let init = ap (λ (k : Check). k.init) c.rule-numbers.ensures in
     let bytes = c.args.bytes.now in
     let start = c.check_word_by-start.result in
-    none_from ((m : ℕ) → xor_of c.deref-2.result.now m ≢ bit_xor start c.args.wanted) ((m : ℕ) → m < 2 ^ c.args.count
+    ok_none_from ((m : ℕ) → xor_of c.deref-2.result.now m ≢ bit_xor start c.args.wanted) ((m : ℕ) → m < 2 ^ c.args.count
     → check_of check (with_bits m bytes) ≢ c.args.wanted) c.choose_columns.result
     (λ none m h e. none m (subst (λ xs. xor_of xs m ≡ bit_xor start c.args.wanted) (sym (columns a)) (gives_back check bytes
     (omega (arith, poly)) (omega (arith, init)) c.args.count start c.args.wanted c.check_word_by-start.ensures m h e)))

@@ -12,4 +12,5 @@ loop-i-preserved c =
           (subst (λ o. IfNone o (HasEach list L → ¬ CanBeCompleted c.args.profile.now c.args.wanted.count c.args.wanted.check list))
           c.in-None.is c.in_ok-words.ensures.none);
       cut = c.in_ok-words.ensures.cut ∙ c.loop-i.invariant.cut;
+      entry = c.in_ok-words.ensures.entry ∙ c.loop-i.invariant.entry;
     }

@@ -8,4 +8,5 @@ invariant-loop-i l = record {
   none : (k : ℕ) → k < l.i → HasEach (words_at (lists_of l.lists) k) (lists_of l.lists)
       → ¬ CanBeCompleted l.profile l.wanted.count l.wanted.check (words_at (lists_of l.lists) k);
   cut : l.budget.cut ≡ l.fn.budget.cut;
+  entry : l.budget.entry ≡ l.fn.budget.entry;
 }

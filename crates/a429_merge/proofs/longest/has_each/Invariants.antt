@@ -7,4 +7,5 @@ abbrev pub invariant-loop-i : goal.invariant-loop-i
 invariant-loop-i l = record {
   each : (k : ℕ) → k < l.i → IsSubsequenceOf (words_at (lists_of l.lists) k) l.words;
   cut : l.budget.cut ≡ l.fn.budget.cut;
+  entry : l.budget.entry ≡ l.fn.budget.entry;
 }

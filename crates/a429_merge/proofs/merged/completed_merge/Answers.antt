@@ -1,8 +1,9 @@
 use Rattle.std.proofs.Common.{Vec, Global, ℕ, ◌≡◌, ◌<◌, length}
+use Rattle.a429_word.proofs.Outcomes.{each_some}
 use Rattle.a429_merge.specs.Order.{lists_of}
 use Rattle.a429_merge.specs.Fill.{Fits, IsFilled, AreDataOf, HasNoFreeWord, HasOneByte, CanBeFilled, CanBeCompleted, rest_filled}
 use Rattle.a429_merge.proofs.FillFacts.{not_filled}
-use Rattle.a429_merge.proofs.MergedFacts.{some_from, none_from, merge_filled, not_completed}
+use Rattle.a429_merge.proofs.MergedFacts.{none_from, merge_filled, not_completed}
 use Rattle.a429_merge.proofs.merged.completed_merge.Goals as goal
 
 pub returns-clause-some : goal.returns-clause-some
@@ -12,8 +13,7 @@ returns-clause-some c =
     let wanted = c.args.wanted.check in
     let L = lists_of c.args.lists.now in
     let merged = c.args.merged.now in
-    some_from (λ (v : Vec ℕ Global). IsFilled p count wanted merged v.items)
-    (λ (v : Vec ℕ Global). AreDataOf p count wanted L v.items) c.completed.result
+    each_some {P = λ (v : Vec ℕ Global). IsFilled p count wanted merged v.items} c.completed.result
     (λ v f. merge_filled p count wanted L merged v.items c.requires f) c.completed.ensures.some
 
 pub returns-clause-none : goal.returns-clause-none

@@ -39,6 +39,7 @@ loop-list-preserved c =
           (λ k l. sub_trans (words_at (lists_of lists) k) old new (c.loop-list.invariant.each k l) kept) here;
       few = omega (arith, short, more, length-append old item);
       cut = c.spend.ensures.cut ∙ c.loop-list.invariant.cut;
+      entry = c.spend.ensures.entry ∙ c.loop-list.invariant.entry;
     }
 
 pub returns-clause-kept : goal.returns-clause-kept

@@ -8,4 +8,5 @@ invariant-loop-list l = record {
   each : (k : ℕ) → k < l.list-index → IsSubsequenceOf (words_at (lists_of l.lists) k) l.merged.items;
   few : length l.merged.items ≤ sum_by (λ list. length list.items) (take l.list-index l.lists);
   cut : l.budget.cut ≡ l.fn.budget.cut;
+  entry : l.budget.entry ≡ l.fn.budget.entry;
 }

@@ -15,4 +15,5 @@ loop-i-preserved c =
           let found = c.is_free.ensures.is.1 (subst (λ v. IsFree (lists_of c.args.lists.now) c.args.passed.now v) same free) in
           absurd (cc (found, c.if-is_free.false)));
       cut = c.is_free.ensures.cut ∙ c.loop-i.invariant.cut;
+      entry = c.is_free.ensures.entry ∙ c.loop-i.invariant.entry;
     }

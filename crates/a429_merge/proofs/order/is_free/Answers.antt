@@ -17,6 +17,7 @@ loop-i-preserved c =
           (λ later. let found = c.comes_later.ensures.is.1 (subst (λ xs. IsLater xs k c.args.word) (sym c.words_at.ensures) later) in
           absurd (cc (found, c.if-comes_later.false)));
       cut = c.comes_later.ensures.cut ∙ c.loop-i.invariant.cut;
+      entry = c.comes_later.ensures.entry ∙ c.loop-i.invariant.entry;
     }
 
 pub returns-clause-is : goal.returns-clause-is

@@ -6,4 +6,5 @@ abbrev pub invariant-loop-i : goal.invariant-loop-i
 invariant-loop-i l = record {
   none : (k : ℕ) → k < l.i → ¬ IsLater (words_at (lists_of l.lists) k) (slice_index l.passed k) l.word;
   cut : l.budget.cut ≡ l.fn.budget.cut;
+  entry : l.budget.entry ≡ l.fn.budget.entry;
 }

@@ -45,6 +45,7 @@ loop-word-preserved c =
           subst (λ qs. Merging L qs c.push.new.self.items) (sym items)
           (subst (λ ms. Merging L qs ms) (sym c.in_ok-push.ensures.items) more);
       cut = c.in-Some.ensures.cut ∙ c.loop-word.invariant.cut;
+      entry = c.in-Some.ensures.entry ∙ c.loop-word.invariant.entry;
     }
 
 pub returns-then-are_passed-clause-kept : goal.returns-then-are_passed-clause-kept

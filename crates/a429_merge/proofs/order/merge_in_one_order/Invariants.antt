@@ -7,6 +7,7 @@ abbrev pub invariant-loop-word : goal.invariant-loop-word
 invariant-loop-word l = record {
   merging : Merging (lists_of l.lists) l.passed.items l.merged.items;
   cut : l.budget.cut ≡ l.fn.budget.cut;
+  entry : l.budget.entry ≡ l.fn.budget.entry;
 }
 
 abbrev pub decreases-loop-word : goal.decreases-loop-word

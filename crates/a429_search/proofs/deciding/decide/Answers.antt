@@ -1,4 +1,4 @@
-use Rattle.std.proofs.Common.{List, length, slice_get, take, Option, sym, subst, inl, inr, arith}
+use Rattle.std.proofs.Common.{List, length, slice_get, take, Option, Some, sym, subst, inl, inr, arith}
 use Rattle.std.proofs.lemmas.List.{take-map}
 use Rattle.a429_link.specs.declared.seen.Seen.{Seen}
 use Rattle.a429_link.specs.Run.{BeginsARun}
@@ -11,7 +11,8 @@ use Rattle.a429_contradiction.specs.declared.contradiction.Contradiction.{Contra
 use Rattle.a429_search.specs.declared.deciding.Written.{Written}
 use Rattle.a429_contradiction.specs.Contradiction.{ContradictsAt, HasNoContradiction}
 use Rattle.a429_search.specs.Deciding.{IsFoundBefore, IsNoRun, IsWritten}
-use Rattle.a429_search.proofs.DecidingFacts.{allowed_first, at_least, begins_within, doubt_of_check, explained_none, first_by, found_first, first_of_refused, impossible_by, no_reason_at_all, none_first, not_cut, request_inside}
+use Rattle.a429_search.specs.Recorded.{IsRequestAt}
+use Rattle.a429_search.proofs.DecidingFacts.{allowed_first, at_least, begins_within, doubt_of_check, explained_none, first_by, found_first, first_of_refused, impossible_by, is_reached, no_reason_at_all, none_first, request_inside}
 use Rattle.a429_search.proofs.deciding.decide.Goals as goal
 
 pub look_before-requires : goal.look_before-requires
@@ -53,9 +54,9 @@ returns-in-Some-clause-exact c =
       verdict = (
         f.inside,
         f.no_run,
-        λ uncut. begins_within p es n found.entry (omega (arith, within)) (none.1 (not_cut _ _ c.limit_of-cut.ensures.some uncut)),
+        λ uncut. begins_within p es n found.entry (omega (arith, within)) (none.1 uncut),
       );
-      reached = c.limit_of-cut.ensures.reached;
+      reached = is_reached c.in_ok-found-in-Impossible.field-0.cut;
     }
 
 pub returns-in-Some-clause-impossible : goal.returns-in-Some-clause-impossible
@@ -108,9 +109,9 @@ returns-in-None-clause-exact c =
         is.0,
         is.2,
         λ uncut. subst (BeginsARun p) (sym (take-map seen_of c.in-Impossible.entry es))
-            (none.1 (not_cut _ _ c.limit_of-cut.ensures.some uncut)),
+            (none.1 uncut),
       );
-      reached = c.limit_of-cut.ensures.reached;
+      reached = is_reached c.in_ok-found-in-Impossible.field-0.cut;
     }
 
 pub returns-in-None-clause-impossible : goal.returns-in-None-clause-impossible
@@ -152,8 +153,8 @@ returns-in-NoRun-clause-exact c =
     let items = items_of c.args.entries.now in
     let none = subst (λ (w : Written). IsWritten p items w) c.in-NoRun.is c.in_ok-found-in-Unexplained.ensures in
     record {
-      verdict = (none.0.0.inside, none.0.0.no_run, none.0.1);
-      reached = none.1;
+      verdict = (none.0.inside, none.0.no_run, none.1);
+      reached = is_reached c.in-NoRun.cut;
     }
 
 pub returns-in-Run-clause-some_run : goal.returns-in-Run-clause-some_run
@@ -194,9 +195,19 @@ returns-in-CutShort-clause-first c =
     let cut = subst (λ (w : Written). IsWritten p items w) c.in-CutShort.is c.in_ok-found-in-Unexplained.ensures in
     no_reason_at_all p items (doubt.0, cut.1)
 
+-- it was cut short at a request
+request_at : (a : goal.After-entry-entry) → IsRequestAt a.args.profile.now (items_of a.args.entries.now) a.entry-entry.result
+request_at a =
+    let p = a.args.profile.now in
+    let items = items_of a.args.entries.now in
+    let cut = subst (λ (w : Written). IsWritten p items w) a.in-CutShort.is a.in_ok-found-in-Unexplained.ensures in
+    subst (IsRequestAt p items) (sym a.entry-entry.ensures) cut.0
+
 pub returns-in-CutShort-clause-doubted : goal.returns-in-CutShort-clause-doubted
-returns-in-CutShort-clause-doubted c =
-    let p = c.args.profile.now in
-    let items = items_of c.args.entries.now in
-    let cut = subst (λ (w : Written). IsWritten p items w) c.in-CutShort.is c.in_ok-found-in-Unexplained.ensures in
-    request_inside p items c.in-CutShort.at.entry cut.0
+returns-in-CutShort-clause-doubted c = request_inside c.args.profile.now (items_of c.args.entries.now) c.entry-entry.result (request_at c)
+
+pub returns-in-CutShort-clause-exact : goal.returns-in-CutShort-clause-exact
+returns-in-CutShort-clause-exact c = record {
+  verdict = (sym c.entry-entry.ensures, request_at c);
+  reached = is_reached (Some c.in-CutShort.cut);
+}

@@ -50,7 +50,7 @@ returns-then-not-branch c =
           (λ these good. c.runs_record_what_can_be_assigned.ensures p these good) items
           c.attempts.from entry c.attempts.search.hypotheses.items c.requires
           (omega (arith, c.in_ok-misfit.ensures.inside, c.next_request-to.ensures.inside))
-          (c.attempts.invariant.sure (sym told.1 ∙ c.cut_of.ensures none.0))
+          (c.attempts.invariant.sure (sym told.1 ∙ none.0))
           (subst (λ l. FitsSome p items l c.attempts.from entry) (ap (λ v. v.items) told.0)
           (c.in_ok-misfit.ensures.fits none.1)),
     )

@@ -1,5 +1,5 @@
 use Rattle.std.proofs.Common.{◌≡◌, ◌∙◌, Option, IfSome, ap, not, subst, sym, true}
-use Rattle.a429_search.proofs.GroupFacts.{was_true}
+use Rattle.std.proofs.lemmas.Bool.{not-false}
 use Rattle.a429_profile.specs.Profile.{Contents}
 use Rattle.a429_ldu.specs.Ldu.{LduValue}
 use Rattle.a429_merge.specs.declared.pieces.GroupPieces.{GroupPieces}
@@ -36,7 +36,7 @@ returns-clause-unit c = λ is.
       | then-is_new w ↦ absurd (cc (w.says_more-is, w.if-is_new.true, c.if-not-says_more.true))
       | else-is_new w ↦
           let yes : c.is_in_some-is_new.result ≡ true = w.if-is_new.false in
-          let equal : w.have_same_words.result ≡ true = was_true w.have_same_words.result (sym w.says_more-is ∙ c.if-not-says_more.true) in
+          let equal : w.have_same_words.result ≡ true = not-false w.have_same_words.result (sym w.says_more-is ∙ c.if-not-says_more.true) in
           let same =
           subst (λ (o : Option GroupPieces).
           IfSome o (λ g. g.gfi ≡ old.gfi → g.end ≡ old.end → (q : Contents) (u : LduValue) → MayBeUnitOf q old u → MayBeUnitOf q g u))

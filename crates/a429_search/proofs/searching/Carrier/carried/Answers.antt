@@ -1,4 +1,4 @@
-use Rattle.std.proofs.Common.{refl, arith}
+use Rattle.std.proofs.Common.{◌∙◌, refl, arith}
 use Rattle.std.proofs.lemmas.Option.{slice_get_read}
 use Rattle.a429_search.proofs.SearchingFacts.{all_carried, covered_kept, one_carried}
 use Rattle.a429_search.proofs.SoundFacts.{add_carried}
@@ -20,6 +20,7 @@ loop-place-preserved c =
       c.in_ok-carry_on.ensures.at c.loop-place.invariant.1,
       λ real. add_carried p hyps c.args.attempt.now c.loop-place.place x old next is (c.loop-place.invariant.2 real)
           (c.in_ok-carry_on.ensures.only (real c.loop-place.place x is)),
+      c.in_ok-carry_on.ensures.entry ∙ c.loop-place.invariant.3,
     )
 
 pub returns-clause-covers : goal.returns-clause-covers

@@ -11,3 +11,4 @@ invariant-loop-place l =
     → k < l.place → slice_get l.hypotheses k ≡ Some h → Covers l.profile h t → AreCovered l.profile l.next.items t)
     × AreAt (number_of l.attempt.start) l.next.items
     × (AreReal l.profile l.hypotheses → AreCarried l.profile l.hypotheses l.attempt l.next.items)
+    × (l.self.budget.entry ≡ l.attempt.at)

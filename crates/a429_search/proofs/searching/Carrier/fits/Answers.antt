@@ -1,4 +1,5 @@
-use Rattle.std.proofs.Common.{inr, subst, sym, ◌∙◌}
+use Rattle.std.proofs.Common.{ap, inr, is_some, subst, sym, ◌∙◌}
+use Rattle.a429_word.proofs.Outcomes.{not_some}
 use Rattle.a429_profile.specs.Profile.{Contents}
 use Rattle.a429_search.specs.Frontier.{AreCarried, AreReal}
 use Rattle.a429_search.proofs.SearchingFacts.{is_refused, none_left}
@@ -10,7 +11,7 @@ returns-clause-refused c = λ yes.
     c.profile.result.now c.profile.ensures.is c.in_ok-attempt.ensures.is
     (none_left c.profile.result.now c.args.hypotheses.now c.in_ok-next.next.items c.in_ok-attempt.attempt
     (sym c.deref.ensures.value ∙ c.are_none.ensures.none c.if-not-are_none.false)
-    (c.in_ok-next.ensures.covers (sym c.cut_by.ensures ∙ c.in-None.is)))
+    (c.in_ok-next.ensures.covers (not_some _ (sym c.cut.ensures.some ∙ ap is_some c.in-None.is))))
 
 pub returns-then-not-are_none-clause-fits : goal.returns-then-not-are_none-clause-fits
 returns-then-not-are_none-clause-fits c = λ yes.

@@ -1,7 +1,8 @@
 use Rattle.std.proofs.Common.{◌≡◌, ◌∙◌, Bool, IfSome, List, [], None, Option, ap, false, inl, inr, is_some, not, refl, subst, sym, true}
+use Rattle.a429_word.proofs.Outcomes.{not_some}
 use Rattle.a429_search.specs.declared.searching.Hypothesis.{Hypothesis}
 use Rattle.a429_search.specs.Frontier.{AreCarried, AreHeard, AreReal, CarriesOn, GoOnFrom, leaves_nothing_out}
-use Rattle.a429_search.proofs.SearchingFacts.{goes_on, heard_on, no_cut, none_is, none_whole, was_none, whole_old}
+use Rattle.a429_search.proofs.SearchingFacts.{goes_on, heard_on, no_cut, none_is, none_whole, whole_old}
 use Rattle.a429_search.proofs.SoundFacts.{same_self}
 use Rattle.a429_search.proofs.searching.Search.take.Goals.{else-is_whole-via-else-is_whole, else-is_whole-via-then-is_whole+else-are_none}
 use Rattle.a429_search.proofs.searching.Search.take.Goals as goal
@@ -13,9 +14,9 @@ returns-then-is_none-clause-covers c = λ _ whole.
     let a = c.args.attempt.now in
     let carries : CarriesOn p old a c.in_ok-next.next.items =
     subst (λ l. CarriesOn p l a c.in_ok-next.next.items) c.deref.ensures.value
-    (c.in_ok-next.ensures.covers (c.cut_at-left_out.ensures.uncut whole)) in
+    (c.in_ok-next.ensures.covers (c.cut-left_out.ensures.uncut whole)) in
     goes_on p old c.in_ok-next.next.items c.in_ok-self.field-0.items (leaves_nothing_out c.args.self.now.left_out) a
-    (none_is a.acknowledged c.is_none.result c.is_none.ensures c.if-is_none.true) (whole_old c.args.self.now.left_out (c.cut_at-left_out.ensures.whole whole)) carries
+    (none_is a.acknowledged c.is_none.result c.is_none.ensures c.if-is_none.true) (whole_old c.args.self.now.left_out (c.cut-left_out.ensures.whole whole)) carries
     (c.in_ok-self.ensures.covers p)
 
 pub returns-clause-covers : goal.returns-clause-covers
@@ -25,12 +26,12 @@ returns-clause-covers c = λ _ _.
     let a = c.args.attempt.now in
     let next = c.in_ok-next.next.items in
     let carries : c.is_none-is_whole.result ≡ true → CarriesOn p old a next = λ whole.
-    subst (λ l. CarriesOn p l a next) c.deref.ensures.value (c.in_ok-next.ensures.covers (c.cut_at-left_out.ensures.uncut (was_none _ _ c.is_none-is_whole.ensures whole))) in
+    subst (λ l. CarriesOn p l a next) c.deref.ensures.value (c.in_ok-next.ensures.covers (c.cut-left_out.ensures.uncut (not_some _ (c.is_none-is_whole.ensures ∙ ap not whole)))) in
     let goes =
     subst (λ (o : Option _). IfSome o (λ heard. GoOnFrom p c.is_none-is_whole.result c.deref-2.result.now a heard.items))
     c.in-Some.is c.in_ok-heard.ensures.covers in
     heard_on p old next c.in-Some.heard.items c.in_ok-self-2.field-0.items (leaves_nothing_out c.args.self.now.left_out) c.is_none-is_whole.result a
-    (λ whole. whole_old c.args.self.now.left_out (c.cut_at-left_out.ensures.whole (was_none _ _ c.is_none-is_whole.ensures whole))) carries
+    (λ whole. whole_old c.args.self.now.left_out (c.cut-left_out.ensures.whole (not_some _ (c.is_none-is_whole.ensures ∙ ap not whole)))) carries
     (subst (λ l. GoOnFrom p c.is_none-is_whole.result l a c.in-Some.heard.items) c.deref-2.ensures.value goes)
     (c.in_ok-self-2.ensures.covers p)
 
@@ -75,9 +76,9 @@ returns-clause-sure c = λ _ sure.
     let heard_next =
     subst (λ (l : List Hypothesis). c.is_none-is_whole.result ≡ true → (l ≡ [] → ⊥) → (hyps : List Hypothesis)
     → AreCarried p hyps a l → AreHeard p l c.in-Some.heard.items) c.deref-2.ensures.value heard in
-    let both = no_cut c.args.self.now.unsure c.cut_at-left_out.result (sym c.or-self.ensures ∙ sure) in
+    let both = no_cut c.args.self.now.unsure c.cut-left_out.result (sym c.or-self.ensures ∙ sure) in
     let whole : (c.args.self.now.unsure ≡ None) × (c.is_none-is_whole.result ≡ true) =
-    (both.0, none_whole c.cut_at-left_out.result c.is_none-is_whole.result c.is_none-is_whole.ensures both.1) in
+    (both.0, none_whole c.cut-left_out.result c.is_none-is_whole.result c.is_none-is_whole.ensures both.1) in
     let some : next ≡ [] → ⊥ =
     elim c.else-is_whole.branch [
       | else-is_whole-via-then-is_whole+else-are_none w ↦

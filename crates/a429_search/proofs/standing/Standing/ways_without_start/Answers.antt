@@ -1,6 +1,7 @@
 use Rattle.std.proofs.Common.{true, subst, Bool}
 use Rattle.a429_search.specs.Standing.{IsRegular}
-use Rattle.a429_search.proofs.StandingFacts.{begun_later, some_too}
+use Rattle.std.proofs.lemmas.Option.{IfSome_then}
+use Rattle.a429_search.proofs.StandingFacts.{begun_later}
 use Rattle.a429_search.proofs.standing.Standing.ways_without_start.Goals as goal
 
 pub returns-then-has_group-clause-only : goal.returns-then-has_group-clause-only
@@ -12,8 +13,8 @@ returns-then-has_group-clause-only c = λ regular.
     record {
       join = λ m g range h. (tt, h);
       begin =
-          some_too c.given_up-then-has_group.result _ _
-          (λ b both m g range h. (tt, (λ _. both.0 m g range h), (λ off. absurd (cc (off, c.if-has_group.true))))) later;
+          IfSome_then c.given_up-then-has_group.result later
+          (λ b both m g range h. (tt, (λ _. both.0 m g range h), (λ off. absurd (cc (off, c.if-has_group.true)))));
       join_regular = r;
-      begin_regular = some_too c.given_up-then-has_group.result _ _ (λ b both. both.1) later;
+      begin_regular = IfSome_then c.given_up-then-has_group.result later (λ b both. both.1);
     }
