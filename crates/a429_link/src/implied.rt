@@ -115,6 +115,7 @@ impl ImpliedSink {
 
     /// Takes a word of this form, which the words so far allow, and answers what the sink does then. An acknowledgement alone
     /// may want memory; where there is none, it is unchanged.
+    #[inline(always)]
     pub fn take(
         &mut self,
         alloc: Global,
