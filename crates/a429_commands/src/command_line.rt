@@ -54,7 +54,7 @@ pub fn command<'a>(alloc: Global, words: &'a [String]) -> Result<Command<'a>, Ru
     if is_for_help(words) {
         return Ok(Command::Help);
     }
-    match parser(alloc)?.try_get_matches_from(words) {
+    match parser(alloc, words)?.try_get_matches_from(words) {
         Ok(matches) => command_of(alloc, &matches),
         Err(error) => Err(fault_of(error.kind())),
     }
@@ -439,16 +439,26 @@ fn entry_number(text: Option<&str>) -> Option<usize> {
     text?.parse().ok()
 }
 
-// The commands and the words that each takes.
-fn parser<'a>(alloc: Global) -> Result<Parser<'a>, AllocError> {
+// The command that the words name, if there is one, and the words that it takes: to make all 25 would take half of a call's start.
+fn parser<'a>(alloc: Global, given: &[String]) -> Result<Parser<'a>, AllocError> {
     let all = Parser::new(alloc, "a429")
         .no_binary_name(true)
         .subcommand_required(true);
     let mut all = Ok(all);
     'commands: for (name, words) in COMMANDS {
-        all = with(all, with_words(alloc, name, words));
+        if is_first(name, given) {
+            all = with(all, with_words(alloc, name, words));
+        }
     }
     all
+}
+
+// Whether this is the first of the words.
+fn is_first(name: &str, words: &[String]) -> bool {
+    match words {
+        [first, ..] => first.as_str() == name,
+        [] => false,
+    }
 }
 
 // These commands and one more.

@@ -1,5 +1,5 @@
 -- The data words of several attempts.
-use Rattle.std.proofs.Common.{◌≡◌, ◌<◌, ℕ, List, length, get_or, Option, Some, None, Result, Ok, Err, IfOk, IfSome, IfNone, inl, inr}
+use Rattle.std.proofs.Common.{◌≡◌, ◌<◌, ℕ, List, length, get_or, Option, Some, None, Result, Ok, Err, IfOk, IfNone, inl, inr}
 use Rattle.a429_profile.specs.Profile.{Contents}
 use Rattle.a429_merge.specs.Order.{HasEach}
 use Rattle.a429_merge.specs.Fill.{IsFilled, AreDataOf, HasOneByte, CanBeFilled, CanBeCompleted}

@@ -1,6 +1,6 @@
 //! The attempts of a group that differ.
 
-ghost use Rattle.std.specs.Prelude.{◌≡◌, None, true, ◌+◌, ◌≤◌, ◌<◌, ◌↔◌, ℕ, List, IfOk, IfSome, IfNone, OnOk, IsTrue, IsSome, IsSomeAnd, EachIndex, SomeIndex, length};
+ghost use Rattle.std.specs.Prelude.{◌≡◌, None, true, ◌+◌, ◌≤◌, ◌<◌, ◌↔◌, ℕ, List, IfOk, IfSome, IfNone, OnErr, OnOk, IsTrue, IsSome, IsSomeAnd, EachIndex, SomeIndex, length};
 ghost use Rattle.a429_link.specs.Run.{IsSubsequenceOf};
 ghost use Rattle.a429_merge.specs.declared.budget.Limit.TheVariants.{Attempts};
 ghost use Rattle.a429_merge.specs.Order.{lists_of, words_at, HasEach};
@@ -29,6 +29,7 @@ pub(crate) fn differing(
     ensures none { IfOk result (λ found. IfNone found (16 < length lists.now)) }
     ensures too_many { IfOk result (λ found. IfNone found (IsSomeAnd budget.new.cut (λ r. r.limit ≡ Attempts (length lists.now)))) }
     ensures uncut { IfOk result (λ found. IfSome found (λ kept. budget.new.cut ≡ budget.old.cut)) }
+    ensures err { OnErr result (budget.new.cut ≡ budget.old.cut) }
     ensures cut { budget.new.cut ≡ None → budget.old.cut ≡ None }
     ensures entry { budget.new.entry ≡ budget.old.entry }
 {
@@ -62,6 +63,7 @@ pub fn lists_with(
     ensures none { IfOk result (λ found. IfNone found (16 ≤ length lists.now)) }
     ensures too_many { IfOk result (λ found. IfNone found (IsSome budget.new.cut)) }
     ensures uncut { IfOk result (λ found. IfSome found (λ kept. budget.new.cut ≡ budget.old.cut)) }
+    ensures err { OnErr result (budget.new.cut ≡ budget.old.cut) }
     ensures cut { budget.new.cut ≡ None → budget.old.cut ≡ None }
     ensures entry { budget.new.entry ≡ budget.old.entry }
 {

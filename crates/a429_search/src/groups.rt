@@ -1,6 +1,6 @@
 //! Groups: attempts of one link data unit.
 
-ghost use Rattle.std.specs.Prelude.{◌≡◌, ◌≤◌, ℕ, Ok, None, true, false, IfNone, IfOk, IfSome, IsSome, IsTrue, SomeIndex};
+ghost use Rattle.std.specs.Prelude.{◌≡◌, ◌≤◌, ℕ, Ok, None, true, false, IfNone, IfOk, IfSome, IsSome, IsTrue, OnErr, SomeIndex, length};
 ghost use Rattle.a429_link.specs.Run.{IsSubsequenceOf};
 ghost use Rattle.a429_merge.specs.Order.{lists_of, words_at};
 ghost use Rattle.a429_profile.specs.Profile.{Contents};
@@ -123,7 +123,10 @@ impl Group {
         ensures covers { IfOk result (λ found. IfSome found (λ g. (p : Contents) (u : LduValue) → MayBeUnitOf p self.now.pieces u → MayBeOf p attempt.now u → MayBeUnitOf p g u)) }
         ensures only { Agree self.now.pieces attempt.now → IfOk result (λ found. IfSome found (λ g. (p : Contents) (u : LduValue) → MayBeUnitOf p g u → MayBeUnitOf p self.now.pieces u × MayBeOf p attempt.now u)) }
         ensures same { is_new ≡ false → IfOk result (λ found. IfSome found (λ g. (g.gfi ≡ self.now.pieces.gfi) → (g.end ≡ self.now.pieces.end) → (p : Contents) (u : LduValue) → MayBeUnitOf p self.now.pieces u → MayBeUnitOf p g u)) }
-        ensures none { IfOk result (λ found. IfNone found (IsSome budget.new.cut)) }
+        ensures none { IfOk result (λ found. IfNone found (16 ≤ length self.now.pieces.attempts.items)) }
+        ensures too_many { IfOk result (λ found. IfNone found (IsSome budget.new.cut)) }
+        ensures uncut { IfOk result (λ found. IfSome found (λ g. budget.new.cut ≡ budget.old.cut)) }
+        ensures err { OnErr result (budget.new.cut ≡ budget.old.cut) }
         ensures cut { budget.new.cut ≡ None → budget.old.cut ≡ None }
         ensures entry { budget.new.entry ≡ budget.old.entry }
     {

@@ -1,7 +1,7 @@
 use Rattle.std.proofs.Common.{Vec, Global, ℕ, ◌≡◌, ◌<◌, length}
 use Rattle.a429_word.proofs.Outcomes.{each_some}
 use Rattle.a429_merge.specs.Order.{lists_of}
-use Rattle.a429_merge.specs.Fill.{Fits, IsFilled, AreDataOf, HasNoFreeWord, HasOneByte, CanBeFilled, CanBeCompleted, rest_filled}
+use Rattle.a429_merge.specs.Fill.{Fits, IsFilled, HasNoFreeWord, HasOneByte, CanBeFilled, CanBeCompleted, rest_filled}
 use Rattle.a429_merge.proofs.FillFacts.{not_filled}
 use Rattle.a429_merge.proofs.MergedFacts.{none_from, merge_filled, not_completed}
 use Rattle.a429_merge.proofs.merged.completed_merge.Goals as goal
